@@ -1,0 +1,3 @@
+pub mod ChipView
+pub mod Runs
+pub mod Stands

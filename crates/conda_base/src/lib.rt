@@ -1,0 +1,12 @@
+//! Addresses, lines and actors: the words that every other crate uses.
+#![tactic(auto)]
+
+mod actor;
+mod bytes;
+mod line;
+mod mesi;
+
+pub use actor::Actor;
+pub use bytes::{read_value, write_value};
+pub use line::{Line, line_of, offset_of};
+pub use mesi::Mesi;

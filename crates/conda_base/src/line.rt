@@ -1,0 +1,39 @@
+// Lines and the places of addresses in them.
+ghost use Rattle.std.specs.Prelude.{◌≡◌, ◌<◌};
+ghost use Rattle.conda_base.specs.Lines.{IsLineSize, line_number, line_offset};
+
+/// A line, by its number: the address of its first byte divided by the line size.
+#[derive(Clone, Copy, Debug, PartialEq, Eq)]
+pub struct Line(pub u32);
+
+/// The line that an address lies in. A line has 32, 64 or 128 bytes.
+pub fn line_of(addr: u32, line_bytes: u32) -> Line
+    requires { IsLineSize line_bytes }
+    ensures { result.0 ≡ line_number addr line_bytes }
+{
+    Line(addr / line_bytes)
+}
+
+/// The place of an address in its line, in bytes.
+pub fn offset_of(addr: u32, line_bytes: u32) -> usize
+    requires { IsLineSize line_bytes }
+    ensures place { result ≡ line_offset addr line_bytes }
+    ensures within { result < line_bytes }
+{
+    (addr % line_bytes) as usize
+}
+
+#[cfg(test)]
+mod tests {
+    use super::*;
+
+    #[test]
+    fn lines_and_offsets(rt: HostRuntime) {
+        assert_eq!(rt; line_of(0x1_0047, 64), Line(0x401));
+        assert_eq!(rt; offset_of(0x1_0047, 64), 7);
+        assert_eq!(rt; line_of(0x1_0047, 32), Line(0x802));
+        assert_eq!(rt; offset_of(0x1_0047, 32), 7);
+        assert_eq!(rt; line_of(u32::MAX, 128), Line(0x1ff_ffff));
+        assert_eq!(rt; offset_of(u32::MAX, 128), 127);
+    }
+}

@@ -1,0 +1,20 @@
+-- What the failures of calls of the host are.
+use Rattle.std.specs.Prelude.{◌≡◌, ◌<◌, ℕ, List, length, IsTrue}
+use Rattle.conda_host.specs.declared.outside.Role.{Role}
+use Rattle.conda_host.specs.State.{HostState, RoseForAll}
+use Rattle.conda_host.specs.Whole.{PassesLimit}
+use Rattle.conda_engine.specs.declared.status.Status.{Status}
+use Rattle.conda_engine.specs.declared.status.Status.TheVariants as status
+
+-- a role couldn't be read, or has too many bytes, or memory ran out
+abbrev pub IsReadError : HostState → HostState → Role → ℕ → Status → Type 0
+IsReadError old new role limit (status.ReadFault r) = (r ≡ role) × RoseForAll old new role
+IsReadError old new role limit (status.TooLarge r n) = (r ≡ role) × (n ≡ limit) × PassesLimit old role limit
+IsReadError old new role limit status.OutOfMemory = Unit {0}
+IsReadError old new role limit other = ⊥
+
+-- the same without a limit
+abbrev pub IsPrefixError : HostState → HostState → Role → Status → Type 0
+IsPrefixError old new role (status.ReadFault r) = (r ≡ role) × RoseForAll old new role
+IsPrefixError old new role status.OutOfMemory = Unit {0}
+IsPrefixError old new role other = ⊥

@@ -1,0 +1,10 @@
+//! The program but for its `main`.
+#![tactic(auto)]
+
+mod calls;
+mod image;
+mod phases;
+mod status;
+mod words;
+
+pub use status::Status;

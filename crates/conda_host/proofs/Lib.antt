@@ -1,0 +1,4 @@
+pub mod Copies
+pub mod Finds
+pub mod States
+pub mod Steps

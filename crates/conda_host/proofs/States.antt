@@ -1,0 +1,309 @@
+-- What a change of a slot, or of a file, does to the state.
+use Rattle.std.proofs.Common.{◌≡◌, ◌≢◌, ℕ, ◌+◌, ◌<◌, ◌≤◌, true, false, List, [], ◌++◌, take, drop, ◌↔◌, length, get_or, set, IsTrue, refl, sym, ap, ◌∙◌, subst, arith, inl, inr, zero, suc, ◌∷◌, map}
+use Rattle.std.specs.Prelude.{Bool, ◌==◌, if◌then◌else◌, Option, Some, None, is_some, string_bytes, replicate}
+use Rattle.std.specs.Option.{option_map_or}
+use Rattle.std.specs.Str.{bytes_eq}
+use Rattle.std.specs.declared.alloc.Global.{Global}
+use Rattle.std.specs.declared.string.String.{String}
+use Rattle.std.proofs.lemmas.List.{get_or-set_other, get_or-set_same}
+use Rattle.std.proofs.lemmas.Bool.{cases_eq}
+use Rattle.std.proofs.lemmas.Bool.Decides.{eqb_tells}
+use Rattle.conda_host.specs.declared.outside.Role.{Role}
+use Rattle.conda_host.specs.declared.outside.Role.TheVariants.{Config, Image, Schedule, Order, Report, Output, Source, Program}
+use Rattle.conda_host.specs.declared.slot.Slot.{Slot}
+use Rattle.conda_host.specs.State.{IsReading, IsCreating, IsWriting, Opens, Reads, Creates, Writes}
+use Rattle.conda_host.specs.Role.{index_of}
+use Rattle.conda_host.specs.Memory.{Input, File, IsFirst, input_at, input_bytes, unused, no_file, shown, owns, owned_by, own_file, left_of, file_at, find_file, files_made, are_distinct, names_held, names_given, slot_of, role_with, role_of, state_of}
+use Rattle.conda_host.proofs.Steps.{writing_of_reading}
+use Rattle.conda_host.specs.MemoryHost.{IsStart}
+use Rattle.conda_host.proofs.Finds.{input_apart, first_name, first_length, find_set_same, find_set_other}
+
+-- roles and their places
+
+role_at : ℕ → Role
+role_at k = if k == 0 then Config else if k == 1 then Image else if k == 2 then Schedule else if k == 3 then Order else if k == 4 then Report else if k == 5 then Output else if k == 6 then Source else Program
+
+role_at-index : (r : Role) → role_at (index_of r) ≡ r
+unfolding role_at
+role_at-index Config = refl
+role_at-index Image = refl
+role_at-index Schedule = refl
+role_at-index Order = refl
+role_at-index Report = refl
+role_at-index Output = refl
+role_at-index Source = refl
+role_at-index Program = refl
+
+index_injective : (r q : Role) → index_of r ≡ index_of q → r ≡ q
+index_injective r q e = sym (role_at-index r) ∙ ap role_at e ∙ role_at-index q
+
+pub index_small : (r : Role) → index_of r < 8
+index_small Config = omega arith
+index_small Image = omega arith
+index_small Schedule = omega arith
+index_small Order = omega arith
+index_small Report = omega arith
+index_small Output = omega arith
+index_small Source = omega arith
+index_small Program = omega arith
+
+slot_other : (slots : List Slot) (role r : Role) (s : Slot) → r ≢ role → slot_of (set slots (index_of role) s) r ≡ slot_of slots r
+slot_other slots role r s d = get_or-set_other slots (index_of role) (index_of r) s unused (λ e. d (index_injective r role e))
+
+slot_same : (slots : List Slot) (role : Role) (s : Slot) → length slots ≡ 8 → slot_of (set slots (index_of role) s) role ≡ s
+slot_same slots role s h = get_or-set_same slots (index_of role) s unused (omega (arith, index_small role))
+
+counts : (slots : List Slot) (role r : Role) (s : Slot) → length slots ≡ 8 → (slot_of slots role).faults ≤ s.faults → (slot_of slots r).faults ≤ (slot_of (set slots (index_of role) s) r).faults
+counts slots role r s h le =
+    elim (cases_eq (index_of r) (index_of role)) [
+      | inl e ↦ rw (index_injective r role e) (rw (slot_same slots role s h) le)
+      | inr d ↦ rw (slot_other slots role r s (λ e. d (ap index_of e))) (omega arith)
+    ]
+
+-- calls that change no file
+
+-- only the role's slot was changed
+pub slot_changed : (i : List Input) (f : List File) (slots : List Slot) (k : ℕ) (role : Role) (s : Slot) → k ≡ index_of role → length slots ≡ 8 → (get_or slots k unused).faults ≤ s.faults → IsReading (state_of i f slots) (state_of i f (set slots k s)) role
+slot_changed i f slots k role s e h le =
+    let le' : (slot_of slots role).faults ≤ s.faults = subst (λ x. (get_or slots x unused).faults ≤ s.faults) e le in
+    rw e (record {
+      later = record { tells = refl; counts = λ r n. counts slots role r s h le' };
+      files = λ n. refl;
+      roles = λ r d. ap (λ t. role_of i f t r) (slot_other slots role r s d);
+    })
+
+-- an input was opened
+pub opened_ok : (i : List Input) (f : List File) (slots : List Slot) (k : ℕ) (role : Role) (j : ℕ) (name : List ℕ) (s : Slot) → k ≡ index_of role → length slots ≡ 8 → s.reading ≡ Some (record { input = j; at = 0 }) → find_file f name ≡ None → input_at i name ≡ Some (input_bytes i j) → Opens (state_of i f slots) (state_of i f (set slots k s)) role name
+opened_ok i f slots k role j name s e h reads none found =
+    rw e (record {
+      opened = rw (slot_same slots role s h, reads) refl;
+      left = λ t. rw (slot_same slots role s h, reads, none) found;
+    })
+
+-- bytes of an input were read
+pub read_ok : (i : List Input) (f : List File) (slots : List Slot) (k : ℕ) (role : Role) (before after : List ℕ) (n input from : ℕ) (s : Slot) → k ≡ index_of role → length slots ≡ 8 → (get_or slots k unused).reading ≡ Some (record { input = input; at = from }) → s.reading ≡ Some (record { input = input; at = from + n }) → n ≤ length before → drop from (input_bytes i input) ≡ take n after ++ drop (from + n) (input_bytes i input) → (0 < length before → (n ≡ 0) ↔ (drop from (input_bytes i input) ≡ [])) → Reads (state_of i f slots) (state_of i f (set slots k s)) role before after n
+read_ok i f slots k role before after n input from s e h was now le bytes ended =
+    let was' : (slot_of slots role).reading ≡ Some (record { input = input; at = from }) = subst (λ x. (get_or slots x unused).reading ≡ Some (record { input = input; at = from })) e was in
+    rw e (record {
+      bound = le;
+      opened = rw (slot_same slots role s h, now) refl;
+      bytes = λ t. rw (slot_same slots role s h, now, was') bytes;
+      ended = λ t p. rw was' (ended p);
+    })
+
+-- files and their owners
+
+pub place_of_owned : (f : List File) (j : ℕ) (r : Role) → owns (file_at f j).owner r ≡ true → j < length f
+place_of_owned [] j r h = absurd (cc)
+place_of_owned (g ∷ f) zero r h = omega arith
+place_of_owned (g ∷ f) (suc j) r h = omega (arith, place_of_owned f j r h)
+
+owned : (r : Role) (g : File) → owns g.owner r ≡ true → owned_by r g ≡ Some g
+owned r g h = rw h refl
+
+not_owned : (r : Role) (g : File) → owns g.owner r ≡ false → owned_by r g ≡ None
+not_owned r g h = rw h refl
+
+owner_itself : (r : Role) → owns (Some r) r ≡ true
+owner_itself r = elim (eqb_tells (index_of r) (index_of r)) [ inl e ↦ e.0 | inr e ↦ absurd (e.1 refl) ]
+
+other_owner : (r role : Role) → r ≢ role → owns (Some role) r ≡ false
+other_owner r role d = elim (eqb_tells (index_of role) (index_of r)) [ inl e ↦ absurd (d (index_injective r role (sym e.1))) | inr e ↦ e.0 ]
+
+one_owner : (w : Option Role) (r role : Role) → owns w role ≡ true → r ≢ role → owns w r ≡ false
+one_owner None r role h d = refl
+one_owner (Some q) r role h d = elim (eqb_tells (index_of q) (index_of role)) [ inl e ↦ subst (λ x. (x == index_of r) ≡ false) (sym e.1) (other_owner r role d) | inr e ↦ absurd (cc) ]
+
+file_same : (f : List File) (j : ℕ) (g : File) → j < length f → file_at (set f j g) j ≡ g
+file_same f j g h = get_or-set_same f j g no_file h
+
+file_other : (f : List File) (j m : ℕ) (g : File) → m ≢ j → file_at (set f j g) m ≡ file_at f m
+file_other f j m g d = get_or-set_other f j m g no_file d
+
+-- a role that owns the changed file neither before nor after has the same file as before
+own_other : (f : List File) (o : Option ℕ) (r : Role) (j : ℕ) (g : File) → j < length f → (o ≡ Some j → owns (file_at f j).owner r ≡ false) → owns g.owner r ≡ false → own_file (set f j g) o r ≡ own_file f o r
+own_other f None r j g h old new = refl
+own_other f (Some m) r j g h old new =
+    elim (cases_eq m j) [
+      | inl e ↦ rw e (rw (file_same f j g h) (not_owned r g new ∙ sym (not_owned r (file_at f j) (old (ap Some e)))))
+      | inr d ↦ rw (file_other f j m g d) refl
+    ]
+
+-- a role that has a file after the change of another's has the same as before
+own_kept : (f : List File) (o : Option ℕ) (r : Role) (j : ℕ) (g : File) → j < length f → owns g.owner r ≡ false → IsTrue (is_some (own_file (set f j g) o r)) → own_file (set f j g) o r ≡ own_file f o r
+own_kept f None r j g h new is = refl
+own_kept f (Some m) r j g h new is =
+    elim (cases_eq m j) [
+      | inl e ↦ absurd (no_file_left (rw (e, file_same f j g h, not_owned r g new) at is))
+      | inr d ↦ rw (file_other f j m g d) refl
+    ]
+  where
+    no_file_left : IsTrue false → ⊥
+    no_file_left x = cc
+
+-- creating
+
+created_name : (f : List File) (j : ℕ) (r : Role) (n : List ℕ) → (file_at f j).name ≡ n → (IsTrue (is_some (own_file f (Some j) r)) → option_map_or (λ g. g.name) (own_file f (Some j) r) [] ≢ n) → owns (file_at f j).owner r ≡ false
+created_name f j r n e h = go (owns (file_at f j).owner r) refl
+  where
+    go : (b : Bool) → owns (file_at f j).owner r ≡ b → owns (file_at f j).owner r ≡ false
+    go true is = absurd (h (rw (owned r (file_at f j) is) refl) (rw (owned r (file_at f j) is) e))
+    go false is = is
+
+abbrev pub empty_for : Role → File → File
+empty_for role f = record f { bytes = []; owner = Some role }
+
+pub create_ok : (i : List Input) (f : List File) (slots : List Slot) (k : ℕ) (role : Role) (j : ℕ) (name : List ℕ) (s : Slot) → k ≡ index_of role → length slots ≡ 8 → s.output ≡ Some j → IsFirst f j name → Creates (state_of i (set f j (empty_for role (file_at f j))) (set slots k s)) role name
+create_ok i f slots k role j name s e h out first =
+    let g = empty_for role (file_at f j) in
+    let here = slot_same slots role s h in
+    let file = file_same f j g (first_length f j name first) in
+    let mine = owned role g (owner_itself role) in
+    rw e (record {
+      created = rw (here, out, file, mine) refl;
+      name = λ t. rw (here, out, file, mine) (first_name f j name first);
+      written = λ t. rw (here, out, file, mine) refl;
+      file = λ t. rw (find_set_same f j name g first (first_name f j name first)) refl;
+    })
+
+pub create_rest : (i : List Input) (f : List File) (slots : List Slot) (k : ℕ) (role : Role) (j : ℕ) (name : List ℕ) (s : Slot) → k ≡ index_of role → length slots ≡ 8 → (get_or slots k unused).faults ≤ s.faults → IsFirst f j name → IsCreating (state_of i f slots) (state_of i (set f j (empty_for role (file_at f j))) (set slots k s)) role name
+create_rest i f slots k role j name s e h le first =
+    let g = empty_for role (file_at f j) in
+    let le' : (slot_of slots role).faults ≤ s.faults = subst (λ x. (get_or slots x unused).faults ≤ s.faults) e le in
+    rw e (record {
+      later = record { tells = refl; counts = λ r n. counts slots role r s h le' };
+      files = λ n d. ap (λ x. shown x (input_at i n)) (find_set_other f j name n g first (first_name f j name first) d);
+      roles = λ r d other. ap (λ t. role_of i (set f j g) t r) (slot_other slots role r s d)
+          ∙ ap (λ own. role_with (is_some (slot_of slots r).reading) (left_of i (slot_of slots r).reading) own)
+          (own_other f (slot_of slots r).output r j g (first_length f j name first)
+          (λ o. created_name f j r name (first_name f j name first) (subst (λ x. IsTrue (is_some (own_file f x r)) → option_map_or (λ y. y.name) (own_file f x r) [] ≢ name) o (other refl)))
+          (other_owner r role d));
+      reading = λ r d. (ap (λ t. is_some t.reading) (slot_other slots role r s d), ap (λ t. left_of i t.reading) (slot_other slots role r s d));
+      kept = λ r d is. ap (λ t. role_of i (set f j g) t r) (slot_other slots role r s d)
+          ∙ ap (λ own. role_with (is_some (slot_of slots r).reading) (left_of i (slot_of slots r).reading) own)
+          (own_kept f (slot_of slots r).output r j g (first_length f j name first) (other_owner r role d)
+          (subst (λ t. IsTrue (is_some (own_file (set f j g) t.output r))) (slot_other slots role r s d) is));
+    })
+
+-- a create that failed
+pub create_failed : (i : List Input) (f : List File) (slots : List Slot) (k : ℕ) (role : Role) (name : List ℕ) (s : Slot) → k ≡ index_of role → length slots ≡ 8 → (get_or slots k unused).faults ≤ s.faults → IsCreating (state_of i f slots) (state_of i f (set slots k s)) role name
+create_failed i f slots k role name s e h le =
+    let p = slot_changed i f slots k role s e h le in
+    record {
+      later = p.later;
+      files = λ n d. p.files n;
+      roles = λ r d other. p.roles r d;
+      reading = λ r d. (ap (λ t. t.opened) (p.roles r d), ap (λ t. t.left) (p.roles r d));
+      kept = λ r d is. p.roles r d;
+    }
+
+-- writing
+
+abbrev pub with_more : List ℕ → File → File
+with_more more f = record f { bytes = f.bytes ++ more }
+
+-- the role has the file at this place
+pub owned_there : (f : List File) (slots : List Slot) (k : ℕ) (role : Role) (j : ℕ) → k ≡ index_of role → (get_or slots k unused).output ≡ Some j → IsTrue (is_some (own_file f (slot_of slots role).output role)) → owns (file_at f j).owner role ≡ true
+owned_there f slots k role j e out is = go (owns (file_at f j).owner role) refl
+  where
+    there : IsTrue (is_some (owned_by role (file_at f j)))
+    there = subst (λ x. IsTrue (is_some (own_file f x role))) (subst (λ x. (get_or slots x unused).output ≡ Some j) e out) is
+
+    nothing : IsTrue false → ⊥
+    nothing x = cc
+
+    go : (b : Bool) → owns (file_at f j).owner role ≡ b → owns (file_at f j).owner role ≡ true
+    go true mine = mine
+    go false other = absurd (nothing (rw (not_owned role (file_at f j) other) at there))
+
+pub write_ok : (i : List Input) (f : List File) (slots : List Slot) (k : ℕ) (role : Role) (j : ℕ) (bytes : List ℕ) (n : ℕ) → k ≡ index_of role → (get_or slots k unused).output ≡ Some j → owns (file_at f j).owner role ≡ true → IsFirst f j (file_at f j).name → n ≤ length bytes → (0 < length bytes → 0 < n) → Writes (state_of i f slots) (state_of i (set f j (with_more (take n bytes) (file_at f j))) slots) role bytes n
+write_ok i f slots k role j bytes n e out mine first le some =
+    let g = with_more (take n bytes) (file_at f j) in
+    let out' : (slot_of slots role).output ≡ Some j = subst (λ x. (get_or slots x unused).output ≡ Some j) e out in
+    let file = file_same f j g (first_length f j _ first) in
+    let old = owned role (file_at f j) mine in
+    let new = owned role g mine in
+    record {
+      bound = le;
+      some = some;
+      written = λ t. rw (out', file, old, new) refl;
+      file = λ t. rw (out', file, old, new) (ap (λ x. shown x (input_at i (file_at f j).name)) (find_set_same f j (file_at f j).name g first refl) ∙ made (file_at f j).owner mine);
+    }
+  where
+    made : (w : Option Role) → owns w role ≡ true → (if is_some w then Some ((file_at f j).bytes ++ take n bytes) else None) ≡ Some ((file_at f j).bytes ++ take n bytes)
+    made None h = absurd (cc)
+    made (Some q) h = refl
+
+pub write_rest : (i : List Input) (f : List File) (slots : List Slot) (k : ℕ) (role : Role) (j : ℕ) (more : List ℕ) → k ≡ index_of role → (get_or slots k unused).output ≡ Some j → owns (file_at f j).owner role ≡ true → IsFirst f j (file_at f j).name → IsWriting (state_of i f slots) (state_of i (set f j (with_more more (file_at f j))) slots) role
+write_rest i f slots k role j more e out mine first =
+    let g = with_more more (file_at f j) in
+    let out' : (slot_of slots role).output ≡ Some j = subst (λ x. (get_or slots x unused).output ≡ Some j) e out in
+    let file = file_same f j g (first_length f j _ first) in
+    let old = owned role (file_at f j) mine in
+    let new = owned role g mine in
+    record {
+      later = record { tells = refl; counts = λ r n. omega arith };
+      files = λ n d. ap (λ x. shown x (input_at i n)) (find_set_other f j (file_at f j).name n g first refl (λ q. d (q ∙ rw (out', old) refl)));
+      roles = λ r d. ap (λ own. role_with (is_some (slot_of slots r).reading) (left_of i (slot_of slots r).reading) own)
+          (own_other f (slot_of slots r).output r j g (first_length f j _ first) (λ o. one_owner (file_at f j).owner r role mine d) (one_owner (file_at f j).owner r role mine d));
+      created = rw (out', file, new) refl;
+      name = rw (out', file, old, new) refl;
+    }
+
+-- a write that failed
+pub write_failed : (i : List Input) (f : List File) (slots : List Slot) (k : ℕ) (role : Role) (s : Slot) → k ≡ index_of role → length slots ≡ 8 → (get_or slots k unused).faults ≤ s.faults → s ≡ record (get_or slots k unused) { faults = s.faults } → IsTrue (is_some (own_file f (slot_of slots role).output role)) → IsWriting (state_of i f slots) (state_of i f (set slots k s)) role
+write_failed i f slots k role s e h le same is =
+    let same' : s ≡ record (slot_of slots role) { faults = s.faults } = subst (λ x. s ≡ record (get_or slots x unused) { faults = s.faults }) e same in
+    let here : slot_of (set slots k s) role ≡ record (slot_of slots role) { faults = s.faults } = rw e (slot_same slots role s h ∙ same') in
+    writing_of_reading is (ap (λ t. role_of i f t role) here) (slot_changed i f slots k role s e h le)
+
+-- the start
+
+some_not_none : (g : File) → Some g ≡ None → ⊥
+some_not_none g e = cc
+
+hidden_none : (w : Option (List ℕ)) (found : Option File) → (w ≢ None → found ≡ None) → ((g : File) → found ≡ Some g → g.owner ≡ None) → shown found w ≡ w
+hidden_none w None h o = refl
+hidden_none None (Some g) h o = rw (o g refl) refl
+hidden_none (Some b) (Some g) h o = absurd (some_not_none g (h (λ e. cc)))
+
+made_unowned : (names : List (String Global)) (room : ℕ) (n : List ℕ) (g : File) → find_file (files_made names room) n ≡ Some g → g.owner ≡ None
+made_unowned [] room n g e = absurd (cc)
+made_unowned (m ∷ names) room n g e = here (bytes_eq (string_bytes m) n) refl (λ later. made_unowned names room n g later)
+  where
+    here : (t : Bool) → bytes_eq (string_bytes m) n ≡ t → (find_file (files_made names room) n ≡ Some g → g.owner ≡ None) → g.owner ≡ None
+    here true is later = let e' = rw is at e in cc
+    here false is later = later (rw is at e)
+
+found_input_apart : (i : List Input) (f : List File) (n : List ℕ) → IsTrue (are_distinct (names_held i f)) → input_at i n ≢ None → find_file f n ≡ None
+found_input_apart i f n h some = go (input_at i n) refl
+  where
+    go : (w : Option (List ℕ)) → input_at i n ≡ w → find_file f n ≡ None
+    go None e = absurd (some e)
+    go (Some b) e = input_apart i f n b h e
+
+pub started : (i : List Input) (f : List File) (slots : List Slot) (names : List (String Global)) (room : ℕ) → IsTrue (are_distinct (names_held i f)) → f ≡ files_made names room → ((r : Role) → slot_of slots r ≡ unused) → IsStart (state_of i f slots) i
+started i f slots names room distinct is none = record {
+  tells = refl;
+  files = λ n. hidden_none (input_at i n) (find_file f n) (found_input_apart i f n distinct) (λ g e. made_unowned names room n g (subst (λ x. find_file x n ≡ Some g) is e));
+  opened = λ r. ap (λ s. is_some s.reading) (none r);
+  created = λ r. ap (λ s. is_some (own_file f s.output r)) (none r);
+  faults = λ r n. ap (λ s. s.faults) (none r);
+}
+
+pub given_distinct : (i : List Input) (f : List File) (names : List (String Global)) (room : ℕ) → f ≡ files_made names room → IsTrue (are_distinct (names_given i names)) → IsTrue (are_distinct (names_held i f))
+given_distinct i f names room is h = rw (is, made_names names) h
+  where
+    made_names : (names : List (String Global)) → map (λ g. g.name) (files_made names room) ≡ map string_bytes names
+    made_names [] = refl
+    made_names (n ∷ names) = ap (λ ns. string_bytes n ∷ ns) (made_names names)
+
+pub all_unused : (slots : List Slot) → slots ≡ replicate 8 unused → (r : Role) → slot_of slots r ≡ unused
+all_unused slots e Config = rw e refl
+all_unused slots e Image = rw e refl
+all_unused slots e Schedule = rw e refl
+all_unused slots e Order = rw e refl
+all_unused slots e Report = rw e refl
+all_unused slots e Output = rw e refl
+all_unused slots e Source = rw e refl
+all_unused slots e Program = rw e refl

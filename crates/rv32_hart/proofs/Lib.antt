@@ -1,0 +1,3 @@
+mod CodeLemmas
+pub mod RegsFacts
+pub mod PlanFacts

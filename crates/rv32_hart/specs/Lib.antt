@@ -1,0 +1,4 @@
+pub mod Regs
+pub mod Code
+pub mod Decode
+pub mod Act
