@@ -1,2 +1,3 @@
+pub mod ReportFacts
 pub mod RunFacts
 pub mod StandFacts

@@ -1,3 +1,4 @@
 pub mod ChipView
+pub mod Reports
 pub mod Runs
 pub mod Stands

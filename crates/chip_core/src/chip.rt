@@ -1,22 +1,27 @@
 // One hart over a flat memory.
-ghost use Rattle.std.specs.Prelude.{◌≡◌, ◌∷◌, [], ◌++◌, ◌%◌, ◌<◌, ◌≤◌, ◌-◌, ◌+◌, ◌^◌, List, Some, None, length, true, IsTrue, ◌↔◌, OnOk, OnErr, IfOk, IfErr};
+ghost use Rattle.std.specs.Prelude.{◌≡◌, ◌∷◌, [], ◌++◌, ◌%◌, ◌<◌, ◌≤◌, ◌-◌, ◌+◌, ◌*◌, ◌^◌, take, drop, replicate, List, Some, None, length, true, IsTrue, ◌↔◌, OnOk, OnErr, IfOk, IfErr};
 ghost use Rattle.conda_base.specs.declared.actor.Actor.{Actor};
 ghost use Rattle.conda_base.specs.Bytes.{value_at, stored};
 ghost use Rattle.rv32_hart.specs.Act.{plan_of, IsAccess, IsPlan};
 ghost use Rattle.offload_calls.specs.State.{Setup, State};
 ghost use Rattle.offload_calls.specs.HartAct.{act_effect, access_effect, hart_runs, unbuilt_word};
-ghost use Rattle.chip_core.specs.ChipView.{IsWholeLines, has, Acts};
+ghost use Rattle.chip_core.specs.ChipView.{IsWholeLines, has, line_size, Acts};
+ghost use Rattle.conda_base.specs.Lines.{IsLineOf};
 ghost use Rattle.chip_core.specs.Runs.{next, happens, flat, unbuilt, unbuilt_of};
 ghost use Rattle.chip_core.specs.Stands.{Shows, Stands};
 
 use crate::{Event, NotBuilt};
 use arrayvec::ArrayVec;
-use conda_base::{Actor, read_value, write_value};
-use offload_calls::{HartStatus, Served, serve_hart};
+use conda_base::{Actor, Line, read_value, write_value};
+use offload_calls::{CoreStatus, HartStatus, Served, serve_hart};
+use run_report::Shown;
 use rv32_hart::{Access, Code, Planned, Regs, Stop, finish, plan};
 use schedule_log::Entry;
 use std::alloc::{AllocError, Global};
 use std::marker::Model;
+
+/// The bytes of a line.
+const LINE_BYTES: u32 = 64;
 
 /// A chip with one hart, whose near-data cores are idle.
 #[derive(Drop)]
@@ -142,6 +147,18 @@ impl Chip {
         out
     }
 
+    // Where a line of memory begins in memory's bytes.
+    fn place_of(&self, l: Line) -> usize
+        requires { IsLineOf self.now.code.base (length self.now.memory) line_size l.0 }
+        ensures place { result ≡ l.0 * line_size - self.now.code.base }
+        ensures from { self.now.code.base ≤ l.0 * line_size }
+        ensures within { result + line_size ≤ length self.now.memory }
+        ensures long { length self.now.code.bytes ≡ length self.now.memory }
+    {
+        let base = self.code.base();
+        (l.0 * LINE_BYTES - base) as usize
+    }
+
     fn load(&self, addr: u32, size: u8) -> u32
         requires { IsAccess self.now.code addr size }
         ensures { result ≡ value_at self.now.memory (addr - self.now.code.base) size }
@@ -156,5 +173,57 @@ impl Chip {
     {
         let place = (addr - self.code.base()) as usize;
         write_value(&mut self.memory, place, size, value);
+    }
+}
+
+// Hands out the bytes of a line that begins at a place, and zeros after them.
+fn hand_out(bytes: &[u8], place: usize, size: usize, out: &mut [u8; 128])
+    requires size { size ≤ 128 }
+    requires within { place + size ≤ length bytes.now }
+    ensures { out.new ≡ take size (drop place bytes.now) ++ replicate (128 - size) 0 }
+{
+    out[..size].copy_from_slice(&bytes[place..place + size]);
+    out[size..].fill(0);
+}
+
+impl Shown for Chip {
+    ghost use Rattle.chip_core.specs.Reports.{view_of_chip};
+
+    ghost shown = { view_of_chip };
+
+    fn harts(&self) -> u8 {
+        1
+    }
+
+    fn cores(&self) -> u8 {
+        1
+    }
+
+    fn hart(&self, _i: u8) -> (Regs, HartStatus) {
+        (self.regs, self.status)
+    }
+
+    fn core(&self, _j: u8) -> (Regs, CoreStatus) {
+        (Regs::new(0), CoreStatus::Idle)
+    }
+
+    fn lines(&self) -> (Line, u32) {
+        let base = self.code.base();
+        let many = self.memory.len() / LINE_BYTES as usize;
+        (Line(base / LINE_BYTES), many as u32)
+    }
+
+    fn line_bytes(&self) -> u32 {
+        LINE_BYTES
+    }
+
+    fn line(&self, l: Line, out: &mut [u8; 128]) {
+        let place = self.place_of(l);
+        hand_out(&self.memory, place, LINE_BYTES as usize, out);
+    }
+
+    fn loaded(&self, l: Line, out: &mut [u8; 128]) {
+        let place = self.place_of(l);
+        hand_out(self.code.bytes(), place, LINE_BYTES as usize, out);
     }
 }

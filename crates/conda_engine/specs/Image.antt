@@ -3,6 +3,7 @@ use Rattle.std.specs.Prelude.{ℕ, ◌≡◌, ◌+◌, ◌-◌, ◌*◌, ◌/◌
 use Rattle.std.specs.Str.{bytes_eq}
 use Rattle.std.specs.Int.{to_le_bytes, w16, w32}
 use Rattle.conda_base.specs.Bytes.{value_at}
+use Rattle.rv32_hart.specs.Code.{CodeView}
 
 -- the bytes of memory
 abbrev pub memory_bytes : ℕ
@@ -45,6 +46,10 @@ body_of file = drop 84 file
 abbrev pub is_plain : List ℕ → Bool
 is_plain file = bytes_eq file (plain (at_of file) (body_of file)) && fits_memory (at_of file) (length (body_of file))
 
--- memory as a plain image loads it: its bytes at their address, zeros elsewhere
-abbrev pub loaded : List ℕ → List ℕ
-loaded file = replicate (at_of file) 0 ++ body_of file ++ replicate (memory_bytes - (at_of file + length (body_of file))) 0
+-- memory with these bytes at an address, and zeros elsewhere
+abbrev pub memory_with : ℕ → List ℕ → List ℕ
+memory_with at body = replicate at 0 ++ body ++ replicate (memory_bytes - (at + length body)) 0
+
+-- that memory, from address 0 on, with instructions fetched from the bytes alone
+abbrev pub code_with : ℕ → List ℕ → CodeView
+code_with at body = record { base = 0; bytes = memory_with at body; ranges = (at, length body) ∷ [] }

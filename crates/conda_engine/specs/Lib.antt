@@ -1,4 +1,11 @@
 pub mod Calls
+pub mod Command
 pub mod Image
+pub mod Loading
+pub mod Outcome
 pub mod Phases
+pub mod Progress
+pub mod Running
+pub mod StatusText
+pub mod Verdict
 pub mod Words

@@ -30,6 +30,12 @@ IsFault files old new (status.ReadFault role) = IsSomeAnd (opened_name files rol
 IsFault files old new (status.WriteFault role) = IsSomeAnd (created_name files role) (λ name. Rose old new role name)
 IsFault files old new other = ⊥
 
+-- a fault has its cause: the count of its role and of the role's name rose
+abbrev pub IsCaused : Files → HostState → HostState → Status → Type 0
+IsCaused files old new (status.ReadFault role) = IsSomeAnd (opened_name files role) (λ name. Rose old new role name)
+IsCaused files old new (status.WriteFault role) = IsSomeAnd (created_name files role) (λ name. Rose old new role name)
+IsCaused files old new other = Unit {0}
+
 -- the names that the command creates are pairwise different
 pub record AreApart (files : Files) : Type 0 where
   pub order_report : files.order ≢ files.report

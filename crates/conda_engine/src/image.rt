@@ -1,8 +1,10 @@
 // Plain images.
 ghost use Rattle.std.specs.Prelude.{◌≡◌, ◌<◌, ◌≤◌, ◌^◌, ◌++◌, ◌%◌, ◌+◌, ◌&&◌, ◌==◌, nat_le, false, true, drop, length, MatchOption, IfOk, IsTrue};
-ghost use Rattle.conda_base.specs.Bytes.{value_at};
-ghost use Rattle.conda_engine.specs.Image.{is_plain, at_of, body_of, loaded, memory_bytes, elf_header, program_header, fits_memory};
+ghost use Rattle.conda_engine.specs.Image.{is_plain, at_of, body_of, code_with, elf_header, program_header, fits_memory};
 
+use arrayvec::ArrayVec;
+use conda_base::read_value;
+use rv32_hart::Code;
 use std::alloc::{AllocError, Global};
 
 const HEADERS: usize = 84;
@@ -32,20 +34,6 @@ fn headers(at: u32, size: u32) -> [u8; 84]
     ]
 }
 
-// The word at a place.
-fn word_at(file: &[u8], place: usize) -> u32
-    requires { place + 4 ≤ length file.now }
-    ensures { result ≡ value_at file.now place 4 }
-{
-    let bytes = [
-        file[place],
-        file[place + 1],
-        file[place + 2],
-        file[place + 3],
-    ];
-    u32::from_le_bytes(bytes)
-}
-
 fn fits(at: u32, size: usize) -> bool
     ensures same { result ≡ fits_memory at size }
     ensures small { result ≡ true → size < 2 ^ 32 }
@@ -67,7 +55,7 @@ pub fn read_plain(file: &[u8]) -> Option<PlainImage<'_>>
     if file.len() < HEADERS {
         return None;
     }
-    let at = word_at(file, 24);
+    let at = read_value(file, 24, 4);
     let body = &file[HEADERS..];
     if !fits(at, body.len()) {
         return None;
@@ -78,4 +66,19 @@ pub fn read_plain(file: &[u8]) -> Option<PlainImage<'_>>
     } else {
         None
     }
+}
+
+/// Memory with a plain image in it.
+pub fn load_plain(alloc: Global, image: PlainImage<'_>) -> Result<Code, AllocError>
+    requires { fits_memory image.at (length image.body.now) ≡ true }
+    ensures { IfOk result (λ code. code ≡ code_with image.entry.at image.entry.body.now) }
+{
+    let at = image.at as usize;
+    let mut bytes = Vec::with_capacity(alloc, MEMORY_BYTES)?;
+    bytes.resize(at, 0)?;
+    bytes.extend_from_slice(image.body)?;
+    bytes.resize(MEMORY_BYTES, 0)?;
+    let mut ranges = ArrayVec::new();
+    ranges.push((image.at, image.body.len() as u32));
+    Ok(Code::new(0, bytes, ranges))
 }

@@ -1,3 +1,5 @@
+ghost use Rattle.std.specs.Prelude.{◌≡◌};
+
 use conda_host::Role;
 
 /// How a command ended.
@@ -18,4 +20,25 @@ pub enum Status {
     OutOfMemory,
     /// The word at pc is no instruction that this program has.
     NotBuilt { pc: u32, word: u32 },
+}
+
+impl Status {
+    ghost use Rattle.conda_engine.specs.StatusText.{code_of};
+
+    /// The exit status of the program.
+    pub fn code(&self) -> u8
+        ensures { result ≡ code_of self.now }
+    {
+        match self {
+            Status::Done => 0,
+            Status::Usage => 2,
+            Status::ReadFault(_) => 3,
+            Status::WriteFault(_) => 4,
+            Status::Image => 6,
+            Status::Schedule { .. } => 7,
+            Status::TooLarge { .. } => 8,
+            Status::OutOfMemory => 9,
+            Status::NotBuilt { .. } => 10,
+        }
+    }
 }

@@ -1,6 +1,6 @@
 -- What a change of a slot, or of a file, does to the state.
-use Rattle.std.proofs.Common.{◌≡◌, ◌≢◌, ℕ, ◌+◌, ◌<◌, ◌≤◌, true, false, List, [], ◌++◌, take, drop, ◌↔◌, length, get_or, set, IsTrue, refl, sym, ap, ◌∙◌, subst, arith, inl, inr, zero, suc, ◌∷◌, map}
-use Rattle.std.specs.Prelude.{Bool, ◌==◌, if◌then◌else◌, Option, Some, None, is_some, string_bytes, replicate}
+use Rattle.std.proofs.Common.{◌≡◌, ◌≢◌, ℕ, ◌+◌, ◌<◌, ◌≤◌, true, false, List, [], ◌++◌, take, drop, ◌↔◌, length, get_or, set, IsTrue, refl, sym, ap, ◌∙◌, subst, arith, inl, inr, zero, suc, ◌∷◌, map, min, ◌-◌, ◌^◌}
+use Rattle.std.specs.Prelude.{Bool, ◌==◌, ◌&&◌, ◌||◌, not, nat_lt, nat_eq, if◌then◌else◌, Option, Some, None, is_some, string_bytes, replicate}
 use Rattle.std.specs.Option.{option_map_or}
 use Rattle.std.specs.Str.{bytes_eq}
 use Rattle.std.specs.declared.alloc.Global.{Global}
@@ -13,39 +13,12 @@ use Rattle.conda_host.specs.declared.outside.Role.TheVariants.{Config, Image, Sc
 use Rattle.conda_host.specs.declared.slot.Slot.{Slot}
 use Rattle.conda_host.specs.State.{IsReading, IsCreating, IsWriting, Opens, Reads, Creates, Writes}
 use Rattle.conda_host.specs.Role.{index_of}
-use Rattle.conda_host.specs.Memory.{Input, File, IsFirst, input_at, input_bytes, unused, no_file, shown, owns, owned_by, own_file, left_of, file_at, find_file, files_made, are_distinct, names_held, names_given, slot_of, role_with, role_of, state_of}
+use Rattle.conda_host.specs.Memory.{Input, File, IsFirst, input_at, input_bytes, file_of, created_at, unused, no_file, shown, owns, owned_by, own_file, left_of, file_at, find_file, files_made, are_distinct, names_held, names_given, is_among, slot_of, role_with, role_of, state_of}
+use Rattle.conda_host.proofs.Roles.{index_injective, index_small}
 use Rattle.conda_host.proofs.Steps.{writing_of_reading}
-use Rattle.conda_host.specs.MemoryHost.{IsStart}
-use Rattle.conda_host.proofs.Finds.{input_apart, first_name, first_length, find_set_same, find_set_other}
-
--- roles and their places
-
-role_at : ℕ → Role
-role_at k = if k == 0 then Config else if k == 1 then Image else if k == 2 then Schedule else if k == 3 then Order else if k == 4 then Report else if k == 5 then Output else if k == 6 then Source else Program
-
-role_at-index : (r : Role) → role_at (index_of r) ≡ r
-unfolding role_at
-role_at-index Config = refl
-role_at-index Image = refl
-role_at-index Schedule = refl
-role_at-index Order = refl
-role_at-index Report = refl
-role_at-index Output = refl
-role_at-index Source = refl
-role_at-index Program = refl
-
-index_injective : (r q : Role) → index_of r ≡ index_of q → r ≡ q
-index_injective r q e = sym (role_at-index r) ∙ ap role_at e ∙ role_at-index q
-
-pub index_small : (r : Role) → index_of r < 8
-index_small Config = omega arith
-index_small Image = omega arith
-index_small Schedule = omega arith
-index_small Order = omega arith
-index_small Report = omega arith
-index_small Output = omega arith
-index_small Source = omega arith
-index_small Program = omega arith
+use Rattle.conda_host.specs.MemoryHost.{IsStart, Rules, called, places_of}
+use Rattle.std.proofs.lemmas.Bool.Decides.{nat_tests}
+use Rattle.conda_host.proofs.Finds.{input_apart, first_name, first_length, find_set_same, find_set_other, same_name, other_name}
 
 slot_other : (slots : List Slot) (role r : Role) (s : Slot) → r ≢ role → slot_of (set slots (index_of role) s) r ≡ slot_of slots r
 slot_other slots role r s d = get_or-set_other slots (index_of role) (index_of r) s unused (λ e. d (index_injective r role e))
@@ -307,3 +280,88 @@ all_unused slots e Report = rw e refl
 all_unused slots e Output = rw e refl
 all_unused slots e Source = rw e refl
 all_unused slots e Program = rw e refl
+
+-- when calls succeed
+
+pub among_of_first : (fs : List File) (j : ℕ) (n : List ℕ) → IsFirst fs j n → is_among (map (λ p. p.0) (places_of fs)) n ≡ true
+among_of_first [] j n h = absurd h
+among_of_first (f ∷ fs) zero n h = rw (same_name f.name n h) refl
+among_of_first (f ∷ fs) (suc j) n h = rw (other_name f.name n h.0) (among_of_first fs j n h.1)
+
+pub among_of_none : (fs : List File) (n : List ℕ) → find_file fs n ≡ None → is_among (map (λ p. p.0) (places_of fs)) n ≡ false
+among_of_none [] n h = refl
+among_of_none (f ∷ fs) n h = go (bytes_eq f.name n) refl (λ later. among_of_none fs n later)
+  where
+    go : (t : Bool) → bytes_eq f.name n ≡ t → (find_file fs n ≡ None → is_among (map (λ p. p.0) (places_of fs)) n ≡ false) → (bytes_eq f.name n || is_among (map (λ p. p.0) (places_of fs)) n) ≡ false
+    go true is later = absurd (some_not_none f (rw is at h))
+    go false is later = rw is (later (rw is at h))
+
+pub places_set : (fs : List File) (j : ℕ) (g : File) → g.name ≡ (file_at fs j).name → g.room ≡ (file_at fs j).room → places_of (set fs j g) ≡ places_of fs
+places_set [] j g e r = refl
+places_set (f ∷ fs) zero g e r = ap (λ p. p ∷ places_of fs) (λ k. (e k, r k))
+places_set (f ∷ fs) (suc j) g e r = ap (λ ps. (f.name, f.room) ∷ ps) (places_set fs j g e r)
+
+pub places_made : (names : List (String Global)) (room : ℕ) → places_of (files_made names room) ≡ map (λ n. (string_bytes n, room)) names
+places_made [] room = refl
+places_made (n ∷ names) room = ap (λ ps. (string_bytes n, room) ∷ ps) (places_made names room)
+
+pub succeeds : (a b r : Bool) → r ≡ a → r ≡ false → b ≡ true → true ≡ (not a && b)
+succeeds true b r e f t = cc
+succeeds false true r e f t = refl
+succeeds false false r e f t = cc
+
+pub fails_itself : (a b r : Bool) → r ≡ a → r ≡ true → false ≡ (not a && b)
+fails_itself true b r e f = refl
+fails_itself false b r e f = cc
+
+pub fails_so : (a b : Bool) → b ≡ false → false ≡ (not a && b)
+fails_so true b e = refl
+fails_so false b e = sym e
+
+pub negated : (a r : Bool) → r ≡ a → r ≡ true → false ≡ not a
+negated true r e f = refl
+negated false r e f = cc
+
+pub same_rules : (r : Rules) (places : List (List ℕ × ℕ)) (n : ℕ) → places ≡ r.places → n ≡ min (r.calls + 1) (2 ^ 64 - 1) → record r { places = places; calls = n } ≡ called r
+same_rules r places n e f = λ k. record r { places = e k; calls = f k }
+
+nothing_there : {X : Type 0} (o : Option X) → o ≡ None → IsTrue (is_some o) → ⊥
+nothing_there None e h = some_is_false h
+  where
+    some_is_false : IsTrue false → ⊥
+    some_is_false x = cc
+nothing_there (Some x) e h = cc
+
+pub not_unopened : (slots : List Slot) (k : ℕ) (role : Role) → k ≡ index_of role → (get_or slots k unused).reading ≡ None → IsTrue (is_some (slot_of slots role).reading) → ⊥
+not_unopened slots k role e none is = nothing_there (slot_of slots role).reading (subst (λ x. (get_or slots x unused).reading ≡ None) e none) is
+
+pub not_uncreated : (f : List File) (slots : List Slot) (k : ℕ) (role : Role) → k ≡ index_of role → (get_or slots k unused).output ≡ None → IsTrue (is_some (own_file f (slot_of slots role).output role)) → ⊥
+not_uncreated f slots k role e none is = nothing_there (own_file f (slot_of slots role).output role) (ap (λ o. own_file f o role) (subst (λ x. (get_or slots x unused).output ≡ None) e none)) is
+
+pub room_owned : (f : List File) (slots : List Slot) (k : ℕ) (role : Role) (j : ℕ) → k ≡ index_of role → (get_or slots k unused).output ≡ Some j → owns (file_at f j).owner role ≡ true → option_map_or (λ g. g.room - length g.bytes) (own_file f (slot_of slots role).output role) 0 ≡ (file_at f j).room - length (file_at f j).bytes
+room_owned f slots k role j e out mine =
+    let out' : (slot_of slots role).output ≡ Some j = subst (λ x. (get_or slots x unused).output ≡ Some j) e out in
+    rw (out', owned role (file_at f j) mine) refl
+
+pub has_room : (n len most left : ℕ) → n ≡ min (min len most) left → (len ≢ 0 → 0 < n) → (nat_lt 0 left || nat_eq len 0) ≡ true
+has_room n len most left e h = grind (arith, nat_tests)
+
+pub has_no_room : (n len most left : ℕ) → n ≡ min (min len most) left → 1 ≤ most → n ≡ 0 → len ≢ 0 → (nat_lt 0 left || nat_eq len 0) ≡ false
+has_no_room n len most left e m z h = grind (arith, nat_tests)
+
+told : (w : Option (List ℕ)) (found : Option File) → (w ≢ None → found ≡ None) → is_some (shown found w) ≡ (is_some w || option_map_or (λ f. is_some f.owner) found false)
+told None None h = refl
+told (Some b) None h = refl
+told None (Some g) h = shown_or_not g
+  where
+    shown_or_not : (g : File) → is_some (if is_some g.owner then Some g.bytes else None) ≡ is_some g.owner
+    shown_or_not g = by_owner g.owner g.bytes
+      where
+        by_owner : (o : Option Role) (b : List ℕ) → is_some (if is_some o then Some b else None) ≡ is_some o
+        by_owner None b = refl
+        by_owner (Some r) b = refl
+told (Some b) (Some g) h = absurd (some_not_none g (h (λ e. cc)))
+
+-- a file is there where it is an input or was created
+pub file_told : (i : List Input) (f : List File) (n : List ℕ) → IsTrue (are_distinct (names_held i f)) → is_some (file_of i f n) ≡ (is_some (input_at i n) || created_at f n)
+file_told i f n distinct = told (input_at i n) (find_file f n) (found_input_apart i f n distinct)

@@ -1,6 +1,6 @@
 // Files in memory.
 ghost use Rattle.std.specs.Prelude.{◌≡◌, ◌↔◌, take, drop, [], ◌++◌, vec_len, slice_set, ◌<◌, ◌≤◌, ◌+◌, ◌-◌, ◌^◌, length, min, MatchOption, IsTrue, IfOk, Some, None};
-ghost use Rattle.conda_host.specs.Memory.{input_at, input_bytes, find_file, files_seen, file_seen, file_at, IsFirst, are_distinct, names_held, files_made, stands_in};
+ghost use Rattle.conda_host.specs.Memory.{input_at, input_bytes, find_file, files_seen, file_at, IsFirst, are_distinct, names_held, files_made, stands_in};
 
 use crate::output::Output;
 use crate::slot::{Reading, Slot, UNUSED};
@@ -81,6 +81,7 @@ fn taken(outputs: &[Output], j: usize, most: usize, len: usize) -> usize
 // Copies some of the bytes from a place on.
 fn take_some(bytes: &[u8], at: usize, most: usize, buf: &mut [u8]) -> usize
     requires { 1 ≤ most }
+    ensures count { result ≡ min (min (length (drop at bytes.now)) (length buf.old)) most }
     ensures bound { result ≤ length buf.old }
     ensures fits { at + result < 2 ^ 64 }
     ensures bytes { drop at bytes.now ≡ take result buf.new ++ drop (at + result) bytes.now }
@@ -98,17 +99,17 @@ fn take_some(bytes: &[u8], at: usize, most: usize, buf: &mut [u8]) -> usize
 // Counts a call, and says whether it is one that is to fail.
 fn count_call(calls: &mut u64, failing: &[u64]) -> bool
     ensures count { calls.new ≡ min (calls.old + 1) (2 ^ 64 - 1) }
-    ensures fails { result ≡ stands_in failing.now calls.new }
+    ensures fails { result ≡ stands_in failing.now (min (calls.old + 1) (2 ^ 64 - 1)) }
 {
     *calls = calls.saturating_add(1);
     failing.contains(calls)
 }
 
 impl MemoryHost {
-    ghost use Rattle.std.specs.Prelude.{◌≡◌, ◌≤◌, IsTrue, IfOk, map, string_bytes};
+    ghost use Rattle.std.specs.Prelude.{◌||◌, is_some};
     ghost use Rattle.std.specs.Option.{option_copied};
-    ghost use Rattle.conda_host.specs.Memory.{names_given, are_distinct};
-    ghost use Rattle.conda_host.specs.MemoryHost.{memory_state, IsStart};
+    ghost use Rattle.conda_host.specs.Memory.{names_given};
+    ghost use Rattle.conda_host.specs.MemoryHost.{memory_state, IsStart, rules_of, rules_made, was_created};
 
     /// A host with these inputs, and with so many bytes of room for each output. A call moves at
     /// most so many bytes. Calls are numbered from 1, and those in `failing` fail.
@@ -122,7 +123,8 @@ impl MemoryHost {
     ) -> Result<MemoryHost, AllocError>
         requires distinct { IsTrue (are_distinct (names_given inputs.items outputs.items)) }
         requires moves { 1 ≤ most }
-        ensures { IfOk result (λ host. IsStart (memory_state host) inputs.items) }
+        ensures start { IfOk result (λ host. IsStart (memory_state host) inputs.items) }
+        ensures rules { IfOk result (λ host. rules_of host ≡ rules_made inputs.items outputs.items room most failing.items) }
     {
         let outputs = reserve(alloc, outputs, room)?;
         Ok(MemoryHost {
@@ -137,7 +139,8 @@ impl MemoryHost {
 
     /// The bytes of a file, which is an input or was created.
     pub fn file(&self, name: &str) -> Option<&[u8]>
-        ensures { option_copied result ≡ (memory_state self.now).file name.now }
+        ensures bytes { option_copied result ≡ (memory_state self.now).file name.now }
+        ensures found { is_some result ≡ (is_some (input_at (rules_of self.now).inputs name.now) || was_created self.now name.now) }
     {
         if let Some(j) = find_output(&self.outputs, name) {
             let output = &self.outputs[j];
@@ -164,11 +167,21 @@ fn reserve(alloc: Global, names: Vec<String>, room: usize) -> Result<Vec<Output>
 }
 
 impl Host for MemoryHost {
-    ghost use Rattle.conda_host.specs.MemoryHost.{memory_state};
+    ghost use Rattle.std.specs.Prelude.{◌&&◌, ◌||◌, false, map, not, is_ok, is_some, nat_lt, nat_eq, OnOk, OnErr};
+    ghost use Rattle.conda_host.specs.State.{IsReading, IsWriting, IsCreating, Opens, Reads, Creates, Writes, Rose, RoseForAll, IsOpened, IsCreated};
+    ghost use Rattle.conda_host.specs.Memory.{is_among};
+    ghost use Rattle.conda_host.specs.MemoryHost.{memory_state, rules_of, called, fails_next, room_left};
 
     ghost state = { memory_state };
 
-    fn open(&mut self, role: Role, name: &str) -> Result<(), HostFailed> {
+    fn open(&mut self, role: Role, name: &str) -> Result<(), HostFailed>
+        ensures ok { OnOk result (Opens (memory_state self.old) (memory_state self.new) role name.now) }
+        ensures err { OnErr result (IsOpened (memory_state self.new) role ≡ false) }
+        ensures cause { OnErr result (Rose (memory_state self.old) (memory_state self.new) role name.now) }
+        ensures rest { IsReading (memory_state self.old) (memory_state self.new) role }
+        ensures when { is_ok result ≡ (not (fails_next self.old) && is_some (input_at (rules_of self.old).inputs name.now)) }
+        ensures rules { rules_of self.new ≡ called (rules_of self.old) }
+    {
         let at = role.index();
         let slot = self.slots[at];
         let fails = count_call(&mut self.calls, &self.failing);
@@ -189,7 +202,16 @@ impl Host for MemoryHost {
         }
     }
 
-    fn read(&mut self, role: Role, buf: &mut [u8]) -> Result<usize, HostFailed> {
+    fn read(&mut self, role: Role, buf: &mut [u8]) -> Result<usize, HostFailed>
+        requires { IsTrue (IsOpened (memory_state self.old) role) }
+        ensures ok { IfOk result (λ n. Reads (memory_state self.old) (memory_state self.new) role buf.old buf.new n) }
+        ensures err { OnErr result ((memory_state self.new).role role ≡ (memory_state self.old).role role) }
+        ensures cause { OnErr result (RoseForAll (memory_state self.old) (memory_state self.new) role) }
+        ensures rest { IsReading (memory_state self.old) (memory_state self.new) role }
+        ensures when { is_ok result ≡ not (fails_next self.old) }
+        ensures count { IfOk result (λ n. n ≡ min (min (length ((memory_state self.old).role role).left) (length buf.old)) (rules_of self.old).most) }
+        ensures rules { rules_of self.new ≡ called (rules_of self.old) }
+    {
         let at = role.index();
         let slot = self.slots[at];
         let fails = count_call(&mut self.calls, &self.failing);
@@ -210,7 +232,14 @@ impl Host for MemoryHost {
         }
     }
 
-    fn create(&mut self, role: Role, name: &str) -> Result<(), HostFailed> {
+    fn create(&mut self, role: Role, name: &str) -> Result<(), HostFailed>
+        ensures ok { OnOk result (Creates (memory_state self.new) role name.now) }
+        ensures err { OnErr result (IsCreated (memory_state self.new) role ≡ false) }
+        ensures cause { OnErr result (Rose (memory_state self.old) (memory_state self.new) role name.now) }
+        ensures rest { IsCreating (memory_state self.old) (memory_state self.new) role name.now }
+        ensures when { is_ok result ≡ (not (fails_next self.old) && is_among (map (λ place. place.0) (rules_of self.old).places) name.now) }
+        ensures rules { rules_of self.new ≡ called (rules_of self.old) }
+    {
         let at = role.index();
         let slot = self.slots[at];
         let fails = count_call(&mut self.calls, &self.failing);
@@ -232,7 +261,17 @@ impl Host for MemoryHost {
         }
     }
 
-    fn write(&mut self, role: Role, bytes: &[u8]) -> Result<usize, HostFailed> {
+    fn write(&mut self, role: Role, bytes: &[u8]) -> Result<usize, HostFailed>
+        requires { IsTrue (IsCreated (memory_state self.old) role) }
+        ensures ok { IfOk result (λ n. Writes (memory_state self.old) (memory_state self.new) role bytes.now n) }
+        ensures err { OnErr result ((memory_state self.new).role role ≡ (memory_state self.old).role role) }
+        ensures err_files { OnErr result (IsReading (memory_state self.old) (memory_state self.new) role) }
+        ensures cause { OnErr result (RoseForAll (memory_state self.old) (memory_state self.new) role) }
+        ensures rest { IsWriting (memory_state self.old) (memory_state self.new) role }
+        ensures when { is_ok result ≡ (not (fails_next self.old) && (nat_lt 0 (room_left self.old role) || nat_eq (length bytes.now) 0)) }
+        ensures count { IfOk result (λ n. n ≡ min (min (length bytes.now) (rules_of self.old).most) (room_left self.old role)) }
+        ensures rules { rules_of self.new ≡ called (rules_of self.old) }
+    {
         let at = role.index();
         let slot = self.slots[at];
         let fails = count_call(&mut self.calls, &self.failing);

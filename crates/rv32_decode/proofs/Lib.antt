@@ -1,2 +1,6 @@
 mod FieldLemmas
 mod RangeLemmas
+mod TableLemmas
+mod ImmediateLemmas
+pub mod GivenBack
+pub mod RoundTrip

@@ -2,7 +2,7 @@
 use Rattle.std.proofs.Common.{◌≡◌, ◌+◌, ◌-◌, ◌*◌, ◌/◌, ◌%◌, ◌^◌, ◌<◌, ◌≤◌, ℕ, ltb, arith}
 use Rattle.std.proofs.lemmas.Bool.{cond_both, ltb-true, ltb-false}
 use Rattle.rv32_decode.specs.Fields.{sign_extended}
-use Rattle.rv32_decode.specs.Decoding.{IsSigned, IsUpper}
+use Rattle.rv32_decode.specs.Ranges.{IsSigned, IsUpper}
 
 -- a fact of a sign-extended value, from the value and its range
 by_sign : (sign value : ℕ) (P : ℕ → Type 0) → (value < sign → P value) → (sign ≤ value → P (value + (2 ^ 32 - 2 * sign))) → P (sign_extended sign value)

@@ -1,4 +1,5 @@
 pub mod Fields
 pub mod Tables
+pub mod Ranges
 pub mod Decoding
 pub mod Encoding

@@ -1,5 +1,7 @@
 // Words as instructions.
-ghost use Rattle.std.specs.Prelude.{◌≡◌};
+ghost use Rattle.std.specs.Prelude.{◌≡◌, ◌≢◌, IfSome};
+ghost use Rattle.rv32_decode.specs.Ranges.{FieldsFit};
+ghost use Rattle.rv32_decode.specs.Encoding.{encoded};
 ghost use Rattle.rv32_decode.specs.Decoding.{decoded, branch_of, load_of, store_of, imm_of, reg_of, amo_of, system_of};
 
 use crate::fields::{
@@ -9,8 +11,19 @@ use crate::instr::Instr;
 use crate::tables::{amo_op, branch_op, imm_op, load_op, reg_op, shift_op, store_op};
 
 /// The instruction that a word holds, or none where no row of the instruction tables matches it.
-#[tactic(auto, unfolding(crate::specs::Decoding::decoded))]
+///
+/// Of a FENCE only the opcode and funct3 are looked at. Every other instruction gives its word back
+/// by `encode`.
 pub fn decode(word: u32) -> Option<Instr>
+    ensures value { result ≡ decoded word }
+    ensures fields { IfSome result FieldsFit }
+    ensures back { IfSome result (λ i. i ≢ Instr.Fence → encoded i ≡ word) }
+{
+    by_opcode(word)
+}
+
+#[tactic(auto, unfolding(crate::specs::Decoding::decoded))]
+fn by_opcode(word: u32) -> Option<Instr>
     ensures { result ≡ decoded word }
 {
     match opcode(word) {

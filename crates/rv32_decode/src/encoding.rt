@@ -1,14 +1,24 @@
 // Instructions as words.
 ghost use Rattle.std.specs.Prelude.{◌≡◌, ◌+◌, ◌*◌, ◌^◌, ◌<◌, ◌≤◌};
-ghost use Rattle.rv32_decode.specs.Decoding.{FieldsFit};
+ghost use Rattle.rv32_decode.specs.Ranges.{FieldsFit};
+ghost use Rattle.rv32_decode.specs.Decoding.{decoded};
 ghost use Rattle.rv32_decode.specs.Encoding.{joined, word_of, word_i, word_s, word_b, word_u, word_j, encoded, bit_of};
 
 use crate::instr::Instr;
 use crate::tables::{amo_code, branch_code, imm_code, is_shift, load_code, reg_code, store_code};
 
 /// The word of an instruction. A FENCE gives the fence of all accesses.
-#[tactic(auto, unfolding(crate::specs::Encoding::encoded))]
 pub fn encode(i: Instr) -> u32
+    requires { FieldsFit i }
+    ensures value { result ≡ encoded i }
+    ensures decodes { decoded result ≡ Some i }
+    ensures fence { i ≡ Instr.Fence → result ≡ 0x0ff0000f }
+{
+    by_format(i)
+}
+
+#[tactic(auto, unfolding(crate::specs::Encoding::encoded))]
+fn by_format(i: Instr) -> u32
     requires { FieldsFit i }
     ensures { result ≡ encoded i }
 {

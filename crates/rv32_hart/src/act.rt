@@ -47,6 +47,7 @@ pub enum Stop {
 ///
 /// The causes of a trap: 0, pc or a taken branch's target is no multiple of 4; 1, pc can't be
 /// fetched from; 4 and 5, a load that isn't aligned or isn't in memory; 6 and 7, such a store.
+#[tactic(auto, unfolding(crate::specs::Act::plan_of))]
 pub fn plan(code: &Code, r: &Regs) -> Result<Planned, Stop>
     ensures value { result ≡ plan_of code.now r.now }
     ensures fits { IfOk result (IsPlan code.now) }
@@ -64,6 +65,7 @@ pub fn plan(code: &Code, r: &Regs) -> Result<Planned, Stop>
 }
 
 /// Gives the registers the effect of an instruction, `loaded` being the value that it loads.
+#[tactic(auto, unfolding(crate::specs::Act::after))]
 pub fn finish(r: &mut Regs, i: Instr, loaded: u32)
     requires fields { FieldsFit i }
     requires no_call { is_call i ≡ false }

@@ -7,6 +7,7 @@ use crate::instr::Instr;
 const ECALL: u32 = 0x0000_0073;
 
 /// The instruction that a word holds, if it is one of those that are built.
+#[tactic(auto, unfolding(crate::specs::Decode::decoded))]
 pub fn decode(word: u32) -> Option<Instr>
     ensures value { result ≡ decoded word }
     ensures fields { IfSome result FieldsFit }
@@ -48,7 +49,7 @@ pub fn decode(word: u32) -> Option<Instr>
 fn opcode(word: u32) -> u32
     ensures { result ≡ opcode word }
 {
-    word & 127
+    word & 0x7f
 }
 
 fn funct3(word: u32) -> u32
@@ -60,19 +61,19 @@ fn funct3(word: u32) -> u32
 fn rd(word: u32) -> u8
     ensures { result ≡ rd word }
 {
-    (word >> 7 & 31) as u8
+    (word >> 7 & 0x1f) as u8
 }
 
 fn rs1(word: u32) -> u8
     ensures { result ≡ rs1 word }
 {
-    (word >> 15 & 31) as u8
+    (word >> 15 & 0x1f) as u8
 }
 
 fn rs2(word: u32) -> u8
     ensures { result ≡ rs2 word }
 {
-    (word >> 20 & 31) as u8
+    (word >> 20 & 0x1f) as u8
 }
 
 fn imm_i(word: u32) -> u32
@@ -86,7 +87,7 @@ fn imm_s(word: u32) -> u32
     ensures value { result ≡ imm_s word }
     ensures signed { IsSigned 2048 result }
 {
-    sign_extend((word >> 25) * 32 + (word >> 7 & 31), 0x800)
+    sign_extend((word >> 25) * 32 + (word >> 7 & 0x1f), 0x800)
 }
 
 fn imm_b(word: u32) -> u32
@@ -95,7 +96,7 @@ fn imm_b(word: u32) -> u32
     ensures even { result % 2 ≡ 0 }
 {
     let high = (word >> 31) * 2 + (word >> 7 & 1);
-    let low = (word >> 25 & 63) * 16 + (word >> 8 & 15);
+    let low = (word >> 25 & 0x3f) * 16 + (word >> 8 & 0xf);
     sign_extend(high * 2048 + low * 2, 0x1000)
 }
 

@@ -2,7 +2,7 @@
 ghost use Rattle.std.specs.Prelude.{◌≡◌, ◌≤◌, [], ◌∷◌, ◌++◌, length};
 ghost use Rattle.std.specs.Fmt.{decimal};
 ghost use Rattle.arrayvec.specs.ArrayVec.{array_vec_len};
-ghost use Rattle.schedule_log.specs.Texts.{actor_text, end_text, text_of};
+ghost use Rattle.schedule_log.specs.Texts.{actor_text, end_text, text_of, IsEntry};
 
 use crate::bytes::push_decimal;
 use arrayvec::ArrayVec;
@@ -79,10 +79,12 @@ fn push_ended(out: &mut ArrayVec<u8, 32>, letter: u8, core: u8, acts: u32, cause
 }
 
 /// The text of an entry, without a line feed, in an empty buffer.
+#[tactic(auto, using(crate::proofs::EntryLemmas::length_text_of))]
 pub fn entry_text(entry: Entry, out: &mut ArrayVec<u8, 32>)
     requires { out.old.items ≡ [] }
     ensures text { out.new.items ≡ text_of entry }
     ensures fits { array_vec_len out.new ≤ 20 }
+    ensures short { IsEntry entry → length (text_of entry) ≤ 11 }
 {
     match entry {
         Entry::Step(hart) => push_numbered(out, b's', hart),

@@ -1,9 +1,18 @@
 use Rattle.std.proofs.Common.{arith}
 use Rattle.conda_host.specs.Memory.{files_seen}
-use Rattle.conda_host.proofs.States.{slot_changed}
+use Rattle.conda_host.proofs.States.{slot_changed, negated, not_unopened}
 use Rattle.conda_host.proofs.memory.MemoryHostHost.read.Goals as goal
+use Rattle.conda_host.proofs.memory.MemoryHostHost.read.Goals.{in_default-via-in-Some+else-not-fails, in_default-via-in_default}
 
 pub returns-in_default-clause-rest : goal.returns-in_default-clause-rest
 returns-in_default-clause-rest c =
     let s = c.args.self.now in
     slot_changed s.inputs.items (files_seen s.outputs.items) s.slots c.index-at.result c.args.role c.failed.result c.index-at.ensures.place (omega arith) c.failed.ensures.grows
+
+pub returns-in_default-clause-when : goal.returns-in_default-clause-when
+returns-in_default-clause-when c =
+    let fails = rw c.deref.ensures.value at c.count_call-fails.ensures.fails in
+    elim c.in_default.branch [
+      | in_default-via-in-Some+else-not-fails w ↦ negated _ c.count_call-fails.result fails w.if-not-fails.false
+      | in_default-via-in_default w ↦ absurd (not_unopened c.args.self.now.slots c.index-at.result c.args.role c.index-at.ensures.place w.in_default.is c.requires)
+    ]

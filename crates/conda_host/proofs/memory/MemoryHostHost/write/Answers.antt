@@ -1,10 +1,13 @@
-use Rattle.std.proofs.Common.{◌≡◌, ◌≤◌, ◌<◌, length, take, true, refl, arith}
+use Rattle.std.proofs.Common.{ℕ, List, ◌≡◌, ◌≤◌, ◌<◌, length, take, true, refl, arith, ap, ◌∙◌, ◌≢◌, min, sym, false}
 use Rattle.std.proofs.lemmas.Grind.{common_steps}
+use Rattle.std.proofs.lemmas.Bool.Decides.{nat_tests}
+use Rattle.std.specs.Prelude.{Bool, nat_lt, nat_eq}
+use Rattle.conda_host.specs.MemoryHost.{rules_of, places_of, room_left}
 use Rattle.conda_host.specs.Memory.{files_seen, file_at, owns}
 use Rattle.conda_host.proofs.Finds.{still_distinct, first_of_held}
-use Rattle.conda_host.proofs.States.{owned_there, place_of_owned, write_ok, write_rest, with_more, slot_changed, write_failed}
+use Rattle.conda_host.proofs.States.{owned_there, place_of_owned, write_ok, write_rest, with_more, slot_changed, write_failed, same_rules, places_set, succeeds, fails_itself, fails_so, room_owned, has_room, has_no_room, not_uncreated}
 use Rattle.conda_host.proofs.memory.MemoryHostHost.write.Goals as goal
-use Rattle.conda_host.proofs.memory.MemoryHostHost.write.Goals.{then-n-gt0, else-n-gt0}
+use Rattle.conda_host.proofs.memory.MemoryHostHost.write.Goals.{then-n-gt0, else-n-gt0, in-Some+else-not-fails, else-not-fails-via-then-not-fails+else-is_empty, else-not-fails-via-else-not-fails, in_default}
 
 pub append_output-requires-clause-room : goal.append_output-requires-clause-room
 append_output-requires-clause-room c =
@@ -41,3 +44,51 @@ pub returns-clause-rest : goal.returns-clause-rest
 returns-clause-rest c =
     let s = c.args.self.now in
     write_failed s.inputs.items (files_seen s.outputs.items) s.slots c.index-at.result c.args.role c.failed.result c.index-at.ensures.place (omega arith) c.failed.ensures.grows c.failed.ensures.same c.requires
+
+pub returns-then-is_empty-clause-rules : goal.returns-then-is_empty-clause-rules
+returns-then-is_empty-clause-rules c =
+    let s = c.args.self.now in
+    same_rules (rules_of s) _ c.count_call-fails.new.calls (ap places_of c.append_output.ensures ∙ places_set (files_seen s.outputs.items) c.in-Some.j (with_more (take c.taken-n.result c.args.bytes.now) (file_at (files_seen s.outputs.items) c.in-Some.j)) refl refl) c.count_call-fails.ensures.count
+
+pub returns-then-is_empty-clause-count : goal.returns-then-is_empty-clause-count
+returns-then-is_empty-clause-count c =
+    let s = c.args.self.now in
+    let mine : owns (file_at (files_seen s.outputs.items) c.in-Some.j).owner c.args.role ≡ true = owned_there (files_seen s.outputs.items) s.slots c.index-at.result c.args.role c.in-Some.j c.index-at.ensures.place c.in-Some.is c.requires in
+    let left = room_owned (files_seen s.outputs.items) s.slots c.index-at.result c.args.role c.in-Some.j c.index-at.ensures.place c.in-Some.is mine in
+    let value = rw c.deref-in-Some.ensures.value at c.taken-n.ensures.value in
+    value ∙ ap (λ x. min (min (length c.args.bytes.now) s.most) x) (sym left)
+
+pub returns-then-is_empty-clause-when : goal.returns-then-is_empty-clause-when
+returns-then-is_empty-clause-when c =
+    let s = c.args.self.now in
+    let mine : owns (file_at (files_seen s.outputs.items) c.in-Some.j).owner c.args.role ≡ true = owned_there (files_seen s.outputs.items) s.slots c.index-at.result c.args.role c.in-Some.j c.index-at.ensures.place c.in-Some.is c.requires in
+    let left = room_owned (files_seen s.outputs.items) s.slots c.index-at.result c.args.role c.in-Some.j c.index-at.ensures.place c.in-Some.is mine in
+    let value = rw c.deref-in-Some.ensures.value at c.taken-n.ensures.value in
+    let fails = rw c.deref.ensures.value at c.count_call-fails.ensures.fails in
+    let some : length c.args.bytes.now ≢ 0 → 0 < c.taken-n.result = elim c.if-n-gt0.branch [ then-n-gt0 w ↦ λ p. omega arith | else-n-gt0 w ↦ λ p. grind (arith, common_steps) ] in
+    succeeds _ _ c.count_call-fails.result fails c.if-not-fails.true (has_room c.taken-n.result (length c.args.bytes.now) s.most (room_left s c.args.role) (value ∙ ap (λ x. min (min (length c.args.bytes.now) s.most) x) (sym left)) some)
+
+not_less : (n : ℕ) → nat_lt 0 n ≡ false → 0 < n → ⊥
+not_less n e h = grind (arith, nat_tests)
+
+not_empty : (xs : List ℕ) (b r : Bool) → b ≡ r → b ≡ false → r ≡ nat_eq (length xs) 0 → length xs ≢ 0
+not_empty xs b r e f g = grind (arith, nat_tests)
+
+pub returns-clause-when : goal.returns-clause-when
+returns-clause-when c =
+    let s = c.args.self.now in
+    let fails = rw c.deref.ensures.value at c.count_call-fails.ensures.fails in
+    elim c.match-slot.branch [
+      | in-Some+else-not-fails w ↦ elim w.else-not-fails.branch [
+        | else-not-fails-via-then-not-fails+else-is_empty v ↦
+            let mine : owns (file_at (files_seen s.outputs.items) w.in-Some.j).owner c.args.role ≡ true = owned_there (files_seen s.outputs.items) s.slots c.index-at.result c.args.role w.in-Some.j c.index-at.ensures.place w.in-Some.is c.requires in
+            let left = room_owned (files_seen s.outputs.items) s.slots c.index-at.result c.args.role w.in-Some.j c.index-at.ensures.place w.in-Some.is mine in
+            let value = rw w.deref-in-Some.ensures.value at w.taken-n.ensures.value in
+            elim v.if-n-gt0.branch [
+              | then-n-gt0 u ↦ absurd (not_less w.taken-n.result (sym u.value-is ∙ v.if-is_empty.false) u.if-n-gt0.true)
+              | else-n-gt0 u ↦ fails_so _ _ (has_no_room w.taken-n.result (length c.args.bytes.now) s.most (room_left s c.args.role) (value ∙ ap (λ x. min (min (length c.args.bytes.now) s.most) x) (sym left)) s.moves (omega arith) (not_empty c.args.bytes.now _ u.is_empty.result u.value-is v.if-is_empty.false u.is_empty.ensures))
+            ]
+        | else-not-fails-via-else-not-fails v ↦ fails_itself _ _ c.count_call-fails.result fails v.if-not-fails.false
+      ]
+      | in_default w ↦ absurd (not_uncreated (files_seen s.outputs.items) s.slots c.index-at.result c.args.role c.index-at.ensures.place w.in_default.is c.requires)
+    ]

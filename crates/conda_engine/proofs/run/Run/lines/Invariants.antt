@@ -1,0 +1,18 @@
+use Rattle.std.proofs.Common.{◌≡◌, ◌+◌, ◌≤◌, ℕ, List, ◌++◌, length}
+use Rattle.std.specs.Prelude.{None}
+use Rattle.conda_base.specs.declared.actor.Actor.{Actor}
+use Rattle.schedule_log.specs.Schedule.{judged_lines, good_events, first_bad_from, first_bad}
+use Rattle.offload_calls.specs.State.{Setup}
+use Rattle.conda_engine.specs.Progress.{IsRun, Ran}
+use Rattle.conda_engine.proofs.ProgressFacts.{RanFront}
+use Rattle.conda_engine.proofs.run.Run.lines.Given as goal
+
+abbrev pub invariant-loop-line : goal.invariant-loop-line
+invariant-loop-line l = record {
+  number : l.number + length l.rest ≤ length l.text + 1;
+  bad : first_bad_from l.number (judged_lines l.more l.rest) ≡ first_bad (judged_lines l.more l.text);
+  run : (s : Setup) (events : List Actor) → IsRun s events l.fn.self → RanFront s events (good_events (judged_lines l.more l.text)) (good_events (judged_lines l.more l.rest)) l.self;
+}
+
+abbrev pub decreases-loop-line : goal.decreases-loop-line
+decreases-loop-line l = length l.rest

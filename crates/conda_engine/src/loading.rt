@@ -1,0 +1,62 @@
+// The first steps of a run: the image is read, and the chip is made.
+ghost use Rattle.std.specs.Prelude.{◌≡◌, IfOk, IfErr};
+ghost use Rattle.conda_host.specs.State.{IsReading};
+ghost use Rattle.conda_host.specs.declared.outside.Role.TheVariants as role;
+ghost use Rattle.conda_engine.specs.Loading.{Starts, IsImageError, HoldsImage, IsLoaded, IsLoadError};
+
+use crate::Status;
+use crate::calls::{open, read};
+use crate::image::{PlainImage, load_plain, read_plain};
+use chip_core::Chip;
+use conda_host::{Host, Role};
+use std::alloc::{AllocError, Global};
+
+/// The most bytes of an image.
+const IMAGE_LIMIT: usize = 33_554_432;
+
+impl From<AllocError> for Status {
+    ghost use Rattle.std.specs.Prelude.{◌≡◌};
+    ghost use Rattle.conda_engine.specs.declared.status.Status.TheVariants.{OutOfMemory};
+
+    ghost from_gives = { λ _ e. e ≡ OutOfMemory };
+
+    fn from(_: AllocError) -> Self {
+        Status::OutOfMemory
+    }
+}
+
+// A chip at the start of a plain image.
+fn chip_of(alloc: Global, file: &[u8]) -> Result<Chip, Status>
+    ensures ok { IfOk result (Starts file.now) }
+    ensures err { IfErr result (IsImageError file.now) }
+{
+    let Some(image) = read_plain(file) else {
+        return Err(Status::Image);
+    };
+    let code = load_plain(alloc, image)?;
+    let chip = Chip::new(alloc, image.at, code)?;
+    Ok(chip)
+}
+
+// Reads the image's file.
+fn read_image<H: Host>(alloc: Global, name: &str, host: &mut H) -> Result<Vec<u8>, Status>
+    ensures ok { IfOk result (λ file. HoldsImage (H.state host.old) name.now file.items) }
+    ensures err { IfErr result (λ e. IsLoadError (H.state host.old) (H.state host.new) name.now e) }
+    ensures rest { IsReading (H.state host.old) (H.state host.new) role.Image }
+{
+    open(host, Role::Image, name)?;
+    read(alloc, host, Role::Image, IMAGE_LIMIT)
+}
+
+/// Reads the image, and makes the chip that it is run on.
+pub fn load<H: Host>(alloc: Global, name: &str, host: &mut H) -> Result<Chip, Status>
+    ensures ok { IfOk result (λ chip. IsLoaded (H.state host.old) name.now chip) }
+    ensures err { IfErr result (λ e. IsLoadError (H.state host.old) (H.state host.new) name.now e) }
+    ensures rest { IsReading (H.state host.old) (H.state host.new) role.Image }
+{
+    let file = read_image(alloc, name, host)?;
+    match chip_of(alloc, &file) {
+        Ok(chip) => Ok(chip),
+        Err(status) => Err(status),
+    }
+}

@@ -1,0 +1,160 @@
+-- Pieces of the report, one after another.
+use Rattle.std.proofs.Common.{◌≡◌, ℕ, ◌+◌, ◌-◌, ◌*◌, ◌/◌, ◌<◌, ◌≤◌, ◌^◌, List, [], ◌++◌, length, take, replicate, IsTrue, refl, sym, ◌∙◌, ap, subst, arith, append_assoc, add-one, suc, zero, true, false, nat_eq, Bool}
+use Rattle.std.specs.Prelude.{Result, Ok, Err, OnOk, OnErr}
+use Rattle.std.proofs.lemmas.List.{append-nil}
+use Rattle.conda_host.specs.State.{HostState, IsCreated}
+use Rattle.conda_host.specs.declared.outside.Role.TheVariants.{Report}
+use Rattle.conda_host.proofs.Steps.{reading_refl, writing_trans, writing_of_reading, whole_nothing, whole_then_whole, whole_then_part, part_longer, rose_for_all_after}
+use Rattle.rv32_hart.specs.declared.regs.Regs.{Regs}
+use Rattle.offload_calls.specs.declared.status.HartStatus.{HartStatus}
+use Rattle.offload_calls.specs.declared.status.CoreStatus.{CoreStatus}
+use Rattle.std.specs.Cmp.Lexicographic.{pointwise}
+use Rattle.std.proofs.lemmas.Bool.Decides.{nat_tests}
+use Rattle.std.proofs.lemmas.Grind.{common_steps}
+use Rattle.conda_base.specs.Lines.{IsLineOf}
+use Rattle.conda_base.proofs.LineLemmas.{line_bytes_in_memory, line_size_cases}
+use Rattle.run_report.specs.View.{View, IsShown, handed_out, line_of}
+use Rattle.run_report.specs.Texts.{changed_line_text, texts_below, register_text, registers_text, hart_line_text, core_line_text, hart_text, core_text, harts_text, cores_text, changed_text, changes_text}
+use Rattle.run_report.specs.Writes.{Wrote, WrotePart}
+
+pub wrote_nothing : (a : HostState) → IsTrue (IsCreated a Report) → Wrote a a []
+wrote_nothing a created = record { whole = whole_nothing a Report; rest = writing_of_reading created refl (reading_refl a Report) }
+
+pub wrote_then : {a b c : HostState} {s t : List ℕ} → Wrote a b s → Wrote b c t → Wrote a c (s ++ t)
+wrote_then p q = record { whole = whole_then_whole p.rest p.whole q.whole; rest = writing_trans p.rest q.rest }
+
+pub part_then : {a b c : HostState} {s t : List ℕ} → Wrote a b s → WrotePart b c t → WrotePart a c (s ++ t)
+part_then p q = record { part = whole_then_part p.rest p.whole q.part; cause = rose_for_all_after p.rest.later q.cause; rest = writing_trans p.rest q.rest }
+
+pub part_and_more : {a b : HostState} {s : List ℕ} (t : List ℕ) → WrotePart a b s → WrotePart a b (s ++ t)
+part_and_more t p = record { part = part_longer t p.part; cause = p.cause; rest = p.rest }
+
+-- what holds on Ok, and on Err
+pub on_ok_map : {T E P Q : Type 0} (r : Result T E) → (P → Q) → OnOk r P → OnOk r Q
+on_ok_map (Ok x) f p = f p
+on_ok_map (Err e) f p = tt
+
+pub on_err_map : {T E P Q : Type 0} (r : Result T E) → (P → Q) → OnErr r P → OnErr r Q
+on_err_map (Ok x) f p = tt
+on_err_map (Err e) f p = f p
+
+pub on_err : {T E P : Type 0} (r : Result T E) → P → OnErr r P
+on_err (Ok x) p = tt
+on_err (Err e) p = p
+
+-- two pieces, of which the second is the last call, and a first piece that fails
+pub two_ok : {T E : Type 0} (r : Result T E) {a b : HostState} (c : HostState) {s : List ℕ} (t : List ℕ) {whole : List ℕ} → whole ≡ s ++ t → Wrote a b s → OnOk r (Wrote b c t) → OnOk r (Wrote a c whole)
+two_ok r {a = a} c t is p q = on_ok_map r (λ last. subst (λ x. Wrote a c x) (sym is) (wrote_then p last)) q
+
+pub two_err : {T E : Type 0} (r : Result T E) {a b : HostState} (c : HostState) {s : List ℕ} (t : List ℕ) {whole : List ℕ} → whole ≡ s ++ t → Wrote a b s → OnErr r (WrotePart b c t) → OnErr r (WrotePart a c whole)
+two_err r {a = a} c t is p q = on_err_map r (λ last. subst (λ x. WrotePart a c x) (sym is) (part_then p last)) q
+
+pub one_err : {T E : Type 0} (r : Result T E) {a b : HostState} {s : List ℕ} (t : List ℕ) {whole : List ℕ} → whole ≡ s ++ t → WrotePart a b s → OnErr r (WrotePart a b whole)
+one_err r {a = a} {b = b} t is p = on_err r (subst (λ x. WrotePart a b x) (sym is) (part_and_more t p))
+
+-- a loop over pieces: none, one more, and all
+pub loop_none : {a : HostState} (text : ℕ → List ℕ) → IsTrue (IsCreated a Report) → Wrote a a (texts_below text 0)
+unfolding texts_below
+loop_none {a = a} text created = wrote_nothing a created
+
+texts_next : (text : ℕ → List ℕ) (n : ℕ) → texts_below text (n + 1) ≡ texts_below text n ++ text n
+unfolding texts_below
+texts_next text n = rw (add-one) refl
+
+pub loop_next : {a b c : HostState} (text : ℕ → List ℕ) (n : ℕ) → Wrote a b (texts_below text n) → Wrote b c (text n) → Wrote a c (texts_below text (n + 1))
+loop_next {a = a} {c = c} text n p q = subst (λ t. Wrote a c t) (sym (texts_next text n)) (wrote_then p q)
+
+pub loop_all : {a b : HostState} {whole : List ℕ} (text : ℕ → List ℕ) (n all : ℕ) → whole ≡ texts_below text all → n ≡ all → Wrote a b (texts_below text n) → Wrote a b whole
+loop_all {a = a} {b = b} text n all is end p = subst (λ t. Wrote a b t) (ap (texts_below text) end ∙ sym is) p
+
+-- what the pieces that are left add
+texts_left : (text : ℕ → List ℕ) (n k : ℕ) → (rest : List ℕ) × (texts_below text (n + k) ≡ texts_below text n ++ rest)
+unfolding texts_below
+texts_left text n zero = let none : n + 0 ≡ n = omega arith in ([], ap (texts_below text) none ∙ sym (append-nil (texts_below text n)))
+texts_left text n (suc k) =
+    let left = texts_left text n k in
+    let more : n + suc k ≡ suc (n + k) = omega arith in
+    (left.0 ++ text (n + k), ap (texts_below text) more ∙ ap (λ t. t ++ text (n + k)) left.1 ∙ append_assoc (texts_below text n) left.0 (text (n + k)))
+
+-- a loop fails in its piece n
+pub loop_err : {T E : Type 0} (r : Result T E) {a b c : HostState} {whole : List ℕ} (text : ℕ → List ℕ) (n all : ℕ) → whole ≡ texts_below text all → n < all → Wrote a b (texts_below text n) → WrotePart b c (text n) → OnErr r (WrotePart a c whole)
+loop_err r text n all is below p q =
+    let left = texts_left text (n + 1) (all - (n + 1)) in
+    let sum : n + 1 + (all - (n + 1)) ≡ all = omega arith in
+    one_err r left.0 (is ∙ ap (texts_below text) (sym sum) ∙ left.1 ∙ ap (λ t. t ++ left.0) (texts_next text n)) (part_then p q)
+
+-- the loops of the report
+pub registers_are : (x : List ℕ) → registers_text x ≡ texts_below (register_text x) 32
+unfolding registers_text
+registers_are x = refl
+
+pub harts_are : (v : View) → harts_text v ≡ texts_below (hart_text v) v.harts
+unfolding harts_text
+harts_are v = refl
+
+pub cores_are : (v : View) → cores_text v ≡ texts_below (core_text v) v.cores
+unfolding cores_text
+cores_are v = refl
+
+pub changes_are : (v : View) → changes_text v ≡ texts_below (λ place. changed_text v (v.base / v.line_bytes + place)) (length v.memory / v.line_bytes)
+unfolding changes_text
+changes_are v = refl
+
+-- a hart and a core: the line, and then the registers
+pub hart_pieces : (v : View) (i : ℕ) (regs : Regs) (status : HartStatus) (line : List ℕ) → regs ≡ (v.hart i).regs → status ≡ (v.hart i).status → line ≡ hart_line_text i status regs.pc → hart_text v i ≡ line ++ registers_text regs.x
+unfolding hart_text
+hart_pieces v i regs status line r s l =
+    sym (ap (λ text. text ++ registers_text regs.x) l ∙ ap (λ now. hart_line_text i now regs.pc ++ registers_text regs.x) s ∙ ap (λ now. hart_line_text i (v.hart i).status now.pc ++ registers_text now.x) r)
+
+pub core_pieces : (v : View) (j : ℕ) (regs : Regs) (status : CoreStatus) (line : List ℕ) → regs ≡ (v.core j).regs → status ≡ (v.core j).status → line ≡ core_line_text j status regs.pc → core_text v j ≡ line ++ registers_text regs.x
+unfolding core_text
+core_pieces v j regs status line r s l =
+    sym (ap (λ text. text ++ registers_text regs.x) l ∙ ap (λ now. core_line_text j now regs.pc ++ registers_text regs.x) s ∙ ap (λ now. core_line_text j (v.core j).status now.pc ++ registers_text now.x) r)
+
+-- memory's lines have numbers below 2^32
+pub lines_bound : (v : View) → IsShown v → v.base / v.line_bytes + length v.memory / v.line_bytes ≤ 2 ^ 32
+lines_bound v kept =
+    let sizes = line_size_cases v.line_bytes kept.size in
+    let bound = kept.bound in
+    grind arith
+
+-- a line of memory has as many bytes as a line, now and as loaded
+length_line : (v : View) → IsShown v → (bytes : List ℕ) → length bytes ≡ length v.memory → (l : ℕ) → IsLineOf v.base (length v.memory) v.line_bytes l → length (line_of v bytes l) ≡ v.line_bytes
+length_line v kept bytes same l line =
+    let within = line_bytes_in_memory v.base (length v.memory) v.line_bytes l kept.size kept.whole_base kept.whole_bytes line in
+    let low = within.0 in
+    let high = within.1 in
+    grind (arith, nat_tests, common_steps)
+
+-- the front of a buffer that a line was handed out to
+pub front_of : (v : View) → IsShown v → (bytes : List ℕ) → length bytes ≡ length v.memory → (l : ℕ) → IsLineOf v.base (length v.memory) v.line_bytes l → (buffer : List ℕ) → buffer ≡ handed_out (line_of v bytes l) → (n : ℕ) → n ≡ v.line_bytes → take n buffer ≡ line_of v bytes l
+front_of v kept bytes same l line buffer is n size =
+    let long = length_line v kept bytes same l line in
+    ap (take n) is ∙ ap (λ k. take k (handed_out (line_of v bytes l))) (size ∙ sym long) ∙ take_front (line_of v bytes l) (replicate (128 - length (line_of v bytes l)) 0)
+  where
+    take_front : (xs ys : List ℕ) → take (length xs) (xs ++ ys) ≡ xs
+    take_front xs ys = grind (arith, common_steps)
+
+-- whether line l is shown
+pub changed_none : (v : View) (l : ℕ) → pointwise nat_eq (line_of v v.memory l) (line_of v v.loaded l) ≡ true → changed_text v l ≡ []
+unfolding changed_text
+changed_none v l same = rw same refl
+
+pub changed_some : (v : View) (l : ℕ) → pointwise nat_eq (line_of v v.memory l) (line_of v v.loaded l) ≡ false → changed_text v l ≡ changed_line_text (l * v.line_bytes) (line_of v v.memory l)
+unfolding changed_text
+changed_some v l same = rw same refl
+
+-- the two buffers' fronts compare as the line's bytes do
+pub fronts_compare : (v : View) → IsShown v → (l : ℕ) → IsLineOf v.base (length v.memory) v.line_bytes l → (now loaded : List ℕ) → now ≡ handed_out (line_of v v.memory l) → loaded ≡ handed_out (line_of v v.loaded l) → (n : ℕ) → n ≡ v.line_bytes → (same : Bool) → same ≡ pointwise nat_eq (take n now) (take n loaded) → pointwise nat_eq (line_of v v.memory l) (line_of v v.loaded l) ≡ same
+fronts_compare v kept l line now loaded is_now is_loaded n size same is =
+    sym (is
+    ∙ ap (λ x. pointwise nat_eq x (take n loaded)) (front_of v kept v.memory refl l line now is_now n size)
+    ∙ ap (λ y. pointwise nat_eq (line_of v v.memory l) y) (front_of v kept v.loaded kept.same l line loaded is_loaded n size))
+
+-- the text of a line that changed
+pub change_is : (v : View) → IsShown v → (l : ℕ) → IsLineOf v.base (length v.memory) v.line_bytes l → (now : List ℕ) → now ≡ handed_out (line_of v v.memory l) → (n : ℕ) → n ≡ v.line_bytes → pointwise nat_eq (line_of v v.memory l) (line_of v v.loaded l) ≡ false → (text : List ℕ) → text ≡ changed_line_text (l * n) (take n now) → text ≡ changed_text v l
+change_is v kept l line now is_now n size differs text is =
+    is
+    ∙ ap (λ bytes. changed_line_text (l * n) bytes) (front_of v kept v.memory refl l line now is_now n size)
+    ∙ ap (λ k. changed_line_text (l * k) (line_of v v.memory l)) size
+    ∙ sym (changed_some v l differs)

@@ -1,0 +1,6 @@
+use Rattle.run_report.specs.Texts.{texts_below, core_text}
+use Rattle.run_report.specs.Writes.{Wrote}
+use Rattle.run_report.proofs.report.write_cores.Given as goal
+
+abbrev pub invariant-loop-number : goal.invariant-loop-number
+invariant-loop-number g l = Wrote (g.H.Host.state l.fn.host) (g.H.Host.state l.host) (texts_below (core_text (g.C.Shown.shown l.chip)) l.number)

@@ -1,0 +1,6 @@
+use Rattle.run_report.specs.Texts.{texts_below, register_text}
+use Rattle.run_report.specs.Writes.{Wrote}
+use Rattle.run_report.proofs.report.write_registers.Given as goal
+
+abbrev pub invariant-loop-number : goal.invariant-loop-number
+invariant-loop-number g l = Wrote (g.H.Host.state l.fn.host) (g.H.Host.state l.host) (texts_below (register_text l.regs.x) l.number)

@@ -1,0 +1,56 @@
+// What a report is made of.
+ghost use Rattle.std.specs.Prelude.{◌≡◌, ◌<◌, ◌≤◌, ◌/◌, length};
+ghost use Rattle.conda_base.specs.Lines.{IsLineSize, IsLineOf, line_number};
+ghost use Rattle.run_report.specs.View.{View, IsShown, line_of, handed_out};
+
+use conda_base::Line;
+use offload_calls::{CoreStatus, HartStatus};
+use rv32_hart::Regs;
+
+/// A simulator, as its report shows it.
+pub trait Shown {
+    ghost shown: { Self → View };
+
+    /// The number of harts.
+    fn harts(&self) -> u8
+        ensures value { result ≡ (shown self.now).harts }
+        ensures few { result ≤ 8 };
+
+    /// The number of near-data cores.
+    fn cores(&self) -> u8
+        ensures value { result ≡ (shown self.now).cores }
+        ensures few { result ≤ 4 };
+
+    /// A hart, by its number.
+    fn hart(&self, i: u8) -> (Regs, HartStatus)
+        requires { i < (shown self.now).harts }
+        ensures regs { result.0 ≡ ((shown self.now).hart i).regs }
+        ensures status { result.1 ≡ ((shown self.now).hart i).status };
+
+    /// A near-data core, by its number.
+    fn core(&self, j: u8) -> (Regs, CoreStatus)
+        requires { j < (shown self.now).cores }
+        ensures regs { result.0 ≡ ((shown self.now).core j).regs }
+        ensures status { result.1 ≡ ((shown self.now).core j).status };
+
+    /// The first line of memory, and the number of lines.
+    fn lines(&self) -> (Line, u32)
+        ensures first { result.0.0 ≡ line_number (shown self.now).base (shown self.now).line_bytes }
+        ensures many { result.1 ≡ length (shown self.now).memory / (shown self.now).line_bytes }
+        ensures kept { IsShown (shown self.now) };
+
+    /// The bytes of a line: 32, 64 or 128.
+    fn line_bytes(&self) -> u32
+        ensures value { result ≡ (shown self.now).line_bytes }
+        ensures size { IsLineSize result };
+
+    /// Hands out the bytes of a line of memory, and zeros after them.
+    fn line(&self, l: Line, out: &mut [u8; 128])
+        requires { IsLineOf (shown self.now).base (length (shown self.now).memory) (shown self.now).line_bytes l.0 }
+        ensures { out.new ≡ handed_out (line_of (shown self.now) (shown self.now).memory l.0) };
+
+    /// Hands out the bytes of a line as they were loaded, and zeros after them.
+    fn loaded(&self, l: Line, out: &mut [u8; 128])
+        requires { IsLineOf (shown self.now).base (length (shown self.now).memory) (shown self.now).line_bytes l.0 }
+        ensures { out.new ≡ handed_out (line_of (shown self.now) (shown self.now).loaded l.0) };
+}

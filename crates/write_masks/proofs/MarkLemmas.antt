@@ -1,0 +1,71 @@
+-- Marks on the places of a line.
+use Rattle.std.proofs.Common.{◌≡◌, ℕ, Bool, true, false, List, [], ◌∷◌, length, get_or, zero, suc, ◌+◌, ◌-◌, ◌*◌, ◌/◌, ◌%◌, ◌^◌, ◌<◌, ◌≤◌, ◌⊎◌, ◌||◌, ⊎_elim, inl, inr, cond, eqb, sym, ◌∙◌, ap, refl, arith}
+use Rattle.std.specs.Int.{bit_at}
+use Rattle.std.specs.Prelude.{bit_or, bit_and, min}
+use Rattle.std.proofs.lemmas.Nat.{one_shl, shl_whole, pow-add, pow_pos}
+use Rattle.std.proofs.lemmas.Nat.Bits.{bit_at_or, bit_at_and, bit_at-lt, bit_at_mask_inside, bit_at_mask_below, bit_at_mask_above, same_from_bits, bit_at-suc, bit_at_lowest}
+use Rattle.std.proofs.lemmas.Bool.{cases_lt, eqb-true, eq-eqb}
+use Rattle.std.proofs.lemmas.Bool.Decides.{nat_tests}
+use Rattle.std.proofs.Math.Nat.{mul-sub, mul_comm}
+use Rattle.write_masks.specs.Marks.{is_marked, is_within, Covers, mixed}
+
+-- what the code computes for the bits from `offset` up to `offset + size`
+pub run_bits : (offset size : ℕ) → 0 < size → size < 128 → offset + size ≤ 128 → (1 * 2 ^ size % 2 ^ 128 - 1) * 2 ^ offset % 2 ^ 128 ≡ 2 ^ (offset + size) - 2 ^ offset
+run_bits offset size some small within =
+    let positive : 0 < 2 ^ size = pow_pos size in
+    let whole : (2 ^ size - 1) * 2 ^ offset % 2 ^ 128 ≡ (2 ^ size - 1) * 2 ^ offset = shl_whole (2 ^ size - 1) size offset 128 (omega arith) (omega arith) in
+    ap (λ x. (x - 1) * 2 ^ offset % 2 ^ 128) (one_shl size 128 small) ∙ whole ∙
+    (mul_comm (2 ^ size - 1) (2 ^ offset) ∙ mul-sub (2 ^ offset) (2 ^ size) 1 ∙ omega (arith, pow-add 2 offset size))
+
+-- the bit of such a run at each place
+pub bit_at_run : (offset size k : ℕ) → ((offset ≤ k) × (k < offset + size) × (bit_at (2 ^ (offset + size) - 2 ^ offset) k ≡ 1)) ⊎ (((k < offset) ⊎ (offset + size ≤ k)) × (bit_at (2 ^ (offset + size) - 2 ^ offset) k ≡ 0))
+bit_at_run offset size k =
+    ⊎_elim (λ below. inr (inl below, bit_at_mask_below offset (offset + size) k below))
+    (λ from. ⊎_elim (λ inside. inl (from, inside, bit_at_mask_inside offset (offset + size) k from inside))
+    (λ above. inr (inr above, bit_at_mask_above offset (offset + size) k above)) (cases_lt k (offset + size)))
+    (cases_lt k offset)
+
+-- a run of marks is added by `|`
+pub is_marked-or : (mask offset size run k : ℕ) → run ≡ 2 ^ (offset + size) - 2 ^ offset → is_marked (bit_or mask run) k ≡ is_marked mask k || is_within offset size k
+is_marked-or mask offset size run k is =
+    let joined = bit_at_or mask run k in
+    let here = bit_at_run offset size k in
+    let place : bit_at run k ≡ bit_at (2 ^ (offset + size) - 2 ^ offset) k = ap (λ r. bit_at r k) is in
+    let small = bit_at-lt mask k in
+    grind (arith, nat_tests)
+
+-- every place of a run is marked exactly where `&` gives the run
+pub covers_from_and : (mask offset size run : ℕ) → run ≡ 2 ^ (offset + size) - 2 ^ offset → bit_and mask run ≡ run → Covers mask offset size
+covers_from_and mask offset size run is same k from below =
+    let one : bit_at run k ≡ 1 = ap (λ r. bit_at r k) is ∙ bit_at_mask_inside offset (offset + size) k from below in
+    let both : min (bit_at mask k) (bit_at run k) ≡ bit_at run k = sym (bit_at_and mask run k) ∙ ap (λ r. bit_at r k) same in
+    let small = bit_at-lt mask k in
+    eq-eqb _ _ (omega arith)
+
+pub and_from_covers : (mask offset size run : ℕ) → run ≡ 2 ^ (offset + size) - 2 ^ offset → Covers mask offset size → bit_and mask run ≡ run
+and_from_covers mask offset size run is covers =
+    same_from_bits (bit_and mask run) run
+    (λ k. let place : bit_at run k ≡ bit_at (2 ^ (offset + size) - 2 ^ offset) k = ap (λ r. bit_at r k) is in
+    let small = bit_at-lt mask k in
+    let both = bit_at_and mask run k in
+    ⊎_elim (λ (inside : (offset ≤ k) × (k < offset + size) × (bit_at (2 ^ (offset + size) - 2 ^ offset) k ≡ 1)).
+    let marked : bit_at mask k ≡ 1 = eqb-true _ _ (covers k inside.0 inside.1) in omega arith)
+    (λ outside. omega arith) (bit_at_run offset size k))
+
+-- a byte of a mix
+pub length-mixed : (mask : ℕ) (front back : List ℕ) → length (mixed mask front back) ≡ length front
+length-mixed mask [] back = refl
+length-mixed mask (f ∷ front) [] = refl
+length-mixed mask (f ∷ front) (b ∷ back) = ap suc (length-mixed (mask / 2) front back)
+
+cond_same : (b : Bool) (x : ℕ) → x ≡ cond b x x
+cond_same true x = refl
+cond_same false x = refl
+
+pub get_or-mixed : (mask : ℕ) (front back : List ℕ) (k : ℕ) → length back ≡ length front → get_or (mixed mask front back) k 0 ≡ cond (is_marked mask k) (get_or front k 0) (get_or back k 0)
+get_or-mixed mask [] [] k same = cond_same (is_marked mask k) 0
+get_or-mixed mask [] (b ∷ back) k same = absurd (omega arith)
+get_or-mixed mask (f ∷ front) [] k same = absurd (omega arith)
+get_or-mixed mask (f ∷ front) (b ∷ back) zero same = ap (λ x. cond (eqb x 1) f b) (sym (bit_at_lowest mask))
+get_or-mixed mask (f ∷ front) (b ∷ back) (suc k) same =
+    get_or-mixed (mask / 2) front back k (omega arith) ∙ ap (λ x. cond (eqb x 1) (get_or front k 0) (get_or back k 0)) (sym (bit_at-suc mask k))

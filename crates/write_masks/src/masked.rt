@@ -1,0 +1,132 @@
+// A line of a near-data cache.
+ghost use Rattle.std.specs.Prelude.{
+  ℕ,
+  ◌≡◌,
+  ◌+◌,
+  ◌-◌,
+  ◌^◌,
+  ◌≤◌,
+  ◌⊎◌,
+  ◌↔◌,
+  ◌||◌,
+  true,
+  false,
+  IsTrue,
+  replicate,
+};
+ghost use Rattle.conda_base.specs.Bytes.{stored, value_at};
+ghost use Rattle.conda_base.specs.Lines.{IsAccessSize};
+ghost use Rattle.write_masks.specs.Marks.{is_marked, is_within, Covers, mixed};
+
+use conda_base::{read_value, write_value};
+
+// A line's room, which holds a line of each size.
+const ROOM: usize = 128;
+
+/// A line of a try: its bytes, a mark for each byte that the try stored, and whether the others were filled.
+///
+/// Byte k has bit k of the mask. A line with fewer than 128 bytes uses the first of them.
+#[derive(Clone, Copy, Debug, PartialEq, Eq)]
+pub struct Masked {
+    pub bytes: [u8; 128],
+    pub mask: u128,
+    pub filled: bool,
+}
+
+impl Masked {
+    /// A line of which nothing is known yet: no byte is stored or filled.
+    pub fn empty() -> Masked
+        ensures bytes { result.bytes ≡ replicate 128 0 }
+        ensures mask { result.mask ≡ 0 }
+        ensures filled { result.filled ≡ false }
+    {
+        Masked {
+            bytes: [0; ROOM],
+            mask: 0,
+            filled: false,
+        }
+    }
+
+    /// Stores the low 1, 2 or 4 bytes of a value, the lowest first, and marks them.
+    pub fn put(&mut self, off: usize, size: u8, value: u32)
+        requires size { IsAccessSize size }
+        requires within { off + size ≤ 128 }
+        ensures bytes { self.new.bytes ≡ stored self.old.bytes off size value }
+        ensures marks { (place : ℕ) → is_marked self.new.mask place ≡ (is_marked self.old.mask place || is_within off size place) }
+        ensures filled { self.new.filled ≡ self.old.filled }
+    {
+        write_value(&mut self.bytes, off, size, value);
+        self.mask |= run_mask(off, size);
+    }
+
+    /// Whether each of these 1, 2 or 4 bytes is marked.
+    pub fn covers(&self, off: usize, size: u8) -> bool
+        requires size { IsAccessSize size }
+        requires within { off + size ≤ 128 }
+        ensures { IsTrue result ↔ Covers self.now.mask off size }
+    {
+        let run = run_mask(off, size);
+        self.mask & run == run
+    }
+
+    /// Takes the bytes that aren't marked from a copy of the line.
+    pub fn fill(&mut self, from: &[u8; 128])
+        requires { self.old.filled ≡ false }
+        ensures bytes { self.new.bytes ≡ mixed self.old.mask self.old.bytes from.now }
+        ensures mask { self.new.mask ≡ self.old.mask }
+        ensures filled { self.new.filled ≡ true }
+    {
+        for place in 0..ROOM {
+            if (self.mask >> place) & 1 == 0 {
+                self.bytes[place] = from[place];
+            }
+        }
+        self.filled = true;
+    }
+
+    /// The number that stands in 1, 2 or 4 bytes, the lowest first.
+    pub fn get(&self, off: usize, size: u8) -> u32
+        requires size { IsAccessSize size }
+        requires within { off + size ≤ 128 }
+        requires known { (self.now.filled ≡ true) ⊎ Covers self.now.mask off size }
+        ensures { result ≡ value_at self.now.bytes off size }
+    {
+        read_value(&self.bytes, off, size)
+    }
+}
+
+// The bits of `size` bytes from `off` on.
+fn run_mask(off: usize, size: u8) -> u128
+    requires size { IsAccessSize size }
+    requires within { off + size ≤ 128 }
+    ensures { result ≡ 2 ^ (off + size) - 2 ^ off }
+{
+    ((1u128 << size) - 1) << off
+}
+
+#[cfg(test)]
+mod tests {
+    use super::*;
+
+    #[test]
+    fn a_stored_byte_hides_a_filled_one(rt: HostRuntime) {
+        let mut line = Masked::empty();
+        line.put(126, 2, 0x1_abcd);
+        assert_eq!(rt; line.mask, 3u128 << 126);
+        assert!(rt; !line.filled);
+        line.fill(&[7; 128]);
+        assert!(rt; line.filled);
+        assert_eq!(rt; line.get(124, 4), 0xabcd_0707);
+        assert_eq!(rt; line.get(127, 1), 0xab);
+    }
+
+    #[test]
+    fn a_word_with_one_stored_byte_is_not_covered(rt: HostRuntime) {
+        let mut line = Masked::empty();
+        line.put(0, 1, 0);
+        assert!(rt; line.covers(0, 1));
+        assert!(rt; !line.covers(0, 4));
+        line.put(0, 4, 0);
+        assert!(rt; line.covers(0, 4));
+    }
+}
