@@ -1,6 +1,5 @@
 -- The report of a chip is that of the events that it stands for.
 use Rattle.std.proofs.Common.{◌≡◌, ℕ, List, refl, sym, ap, ◌∙◌, ◌++◌}
-use Rattle.conda_base.specs.declared.actor.Actor.{Actor}
 use Rattle.offload_calls.specs.State.{Setup, State, Hart, Core, start_core}
 use Rattle.run_report.specs.View.{View}
 use Rattle.run_report.specs.Texts.{report_text, texts_below, hart_text, core_text, harts_text, cores_text, changes_text, changed_text, head_text}

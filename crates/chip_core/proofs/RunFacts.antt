@@ -1,11 +1,10 @@
 -- Events after events.
-use Rattle.std.proofs.Common.{◌≡◌, List, [], ◌∷◌, ◌++◌, refl, ap, sym, ◌∙◌}
+use Rattle.std.proofs.Common.{◌≡◌, List, [], ◌∷◌, ◌++◌, refl, ap}
 use Rattle.std.specs.Prelude.{Option, Some, None}
 use Rattle.conda_base.specs.declared.actor.Actor.{Actor}
 use Rattle.offload_calls.specs.State.{Setup, State, start}
 use Rattle.chip_core.specs.declared.event.NotBuilt.{NotBuilt}
 use Rattle.chip_core.specs.Runs.{next, happens, journal_from, flat_run_from, flat, unbuilt, first_unbuilt_from, run_events_from}
-
 
 pub flat_run_from-push : (s : Setup) (f : State) (events : List Actor) (a : Actor)
     → flat_run_from s f (journal_from s f (events ++ a ∷ [])) ≡ happens s (flat_run_from s f (journal_from s f events)) a
@@ -49,7 +48,7 @@ first_unbuilt_from-append s f [] after built = refl
 first_unbuilt_from-append s f (a ∷ before) after built = go (λ later. first_unbuilt_from-append s (happens s f a) before after later) (unbuilt s f a) refl
   where
     go : (first_unbuilt_from s (happens s f a) before ≡ None
-          → first_unbuilt_from s (happens s f a) (before ++ after) ≡ first_unbuilt_from s (flat_run_from s f (journal_from s f (a ∷ before))) after)
+        → first_unbuilt_from s (happens s f a) (before ++ after) ≡ first_unbuilt_from s (flat_run_from s f (journal_from s f (a ∷ before))) after)
         → (n : Option NotBuilt) → unbuilt s f a ≡ n
         → first_unbuilt_from s f (a ∷ before ++ after) ≡ first_unbuilt_from s (flat_run_from s f (journal_from s f (a ∷ before))) after
     go rest None is = rw is (rest (rw is at built))
@@ -61,7 +60,7 @@ run_events_from-append s f [] after built = refl
 run_events_from-append s f (a ∷ before) after built = go (λ later. run_events_from-append s (happens s f a) before after later) (unbuilt s f a) refl
   where
     go : (first_unbuilt_from s (happens s f a) before ≡ None
-          → run_events_from s (happens s f a) (before ++ after) ≡ before ++ run_events_from s (flat_run_from s f (journal_from s f (a ∷ before))) after)
+        → run_events_from s (happens s f a) (before ++ after) ≡ before ++ run_events_from s (flat_run_from s f (journal_from s f (a ∷ before))) after)
         → (n : Option NotBuilt) → unbuilt s f a ≡ n
         → run_events_from s f (a ∷ before ++ after) ≡ a ∷ before ++ run_events_from s (flat_run_from s f (journal_from s f (a ∷ before))) after
     go rest None is = rw is (ap (λ t. a ∷ t) (rest (rw is at built)))

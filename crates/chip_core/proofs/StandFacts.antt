@@ -1,6 +1,6 @@
 -- One event of a chip and of the flat state that it shows.
-use Rattle.std.proofs.Common.{◌≡◌, ℕ, List, [], ◌∷◌, ◌++◌, true, false, refl, sym, ap, ◌∙◌, subst, IsTrue, cond, append-nil, rules}
-use Rattle.std.specs.Prelude.{Bool, Ok, Err}
+use Rattle.std.proofs.Common.{◌≡◌, ℕ, List, [], ◌∷◌, ◌++◌, true, false, refl, sym, ap, ◌∙◌, subst, IsTrue, cond, append-nil}
+use Rattle.std.specs.Prelude.{Ok, Err}
 use Rattle.std.proofs.lemmas.Bool.{eqb-true}
 use Rattle.conda_base.specs.declared.actor.Actor.{Actor}
 use Rattle.conda_base.specs.declared.actor.Actor.TheVariants as Actor_is
@@ -10,10 +10,10 @@ use Rattle.rv32_hart.specs.declared.regs.Trap.{Trap}
 use Rattle.rv32_hart.specs.Act.{plan_of}
 use Rattle.schedule_log.specs.declared.entry.Entry.TheVariants as Entry_is
 use Rattle.offload_calls.specs.declared.status.HartStatus.TheVariants as Hart_is
-use Rattle.offload_calls.specs.HartAct.{Effect, act_effect, access_effect, plan_effect, hart_runs, hart_step, hart_step_of, hart_does}
-use Rattle.offload_calls.specs.State.{Setup, State, Hart, updated}
+use Rattle.offload_calls.specs.HartAct.{act_effect, access_effect, plan_effect, hart_runs, hart_step, hart_does}
+use Rattle.offload_calls.specs.State.{Setup, State, Hart}
 use Rattle.chip_core.specs.ChipView.{ChipView, Acts, has}
-use Rattle.chip_core.specs.Runs.{next, happens, executed, flat}
+use Rattle.chip_core.specs.Runs.{happens, executed, flat}
 use Rattle.chip_core.specs.Stands.{Shows, Stands}
 use Rattle.chip_core.proofs.RunFacts.{flat-push}
 
@@ -68,7 +68,7 @@ stands_after_act s events a old new h out hart is runs acts shows =
     let f : State = flat s events in
     let running : hart_runs (f.harts 0).status ≡ true = ap (λ (k : Hart). hart_runs k.status) (sym shows.hart) ∙ runs in
     let after : flat s (events ++ Actor_is.Hart 0 ∷ []) ≡ hart_does f 0 (act_effect s.code f.memory (f.harts 0).regs) =
-        flat-push s events (Actor_is.Hart 0) ∙ happens-runs s f running ∙ hart_step-runs s f running in
+    flat-push s events (Actor_is.Hart 0) ∙ happens-runs s f running ∙ hart_step-runs s f running in
     let does : Acts old new (act_effect s.code f.memory (f.harts 0).regs) out = subst (λ e. Acts old new e out) (act_of_shown s f old shows) acts in
     subst (λ b. StandsAfter s events b out new) (sym (hart ∙ ap Actor_is.Hart zero))
     (record {

@@ -16,7 +16,7 @@ view_of_chip c = record {
   base = c.code.base;
   line_bytes = line_size;
   memory = c.memory;
-  loaded = c.code.bytes
+  loaded = c.code.bytes;
 }
 
 abbrev pub view_of_state : Setup → State → View
@@ -28,7 +28,7 @@ view_of_state s f = record {
   base = s.code.base;
   line_bytes = line_size;
   memory = f.memory;
-  loaded = s.code.bytes
+  loaded = s.code.bytes;
 }
 
 -- the report of these events

@@ -1,7 +1,7 @@
 -- What a chip is after a list of events.
 use Rattle.std.specs.Prelude.{ℕ, ◌≡◌, List}
 use Rattle.conda_base.specs.declared.actor.Actor.{Actor}
-use Rattle.offload_calls.specs.State.{Setup, State, Hart, start_core}
+use Rattle.offload_calls.specs.State.{Setup, State, start_core}
 use Rattle.chip_core.specs.ChipView.{ChipView}
 use Rattle.chip_core.specs.Runs.{flat}
 

@@ -1,7 +1,7 @@
 -- What the layers above use of lines and offsets, so that none of them divides.
-use Rattle.std.proofs.Common.{◌≡◌, ℕ, ◌+◌, ◌-◌, ◌*◌, ◌/◌, ◌%◌, ◌<◌, ◌≤◌, ◌⊎◌, inl, inr, ⊎_elim, IsTrue, sym, subst, ◌∙◌, ap, refl, arith, rules, eqb, ◌||◌}
+use Rattle.std.proofs.Common.{◌≡◌, ℕ, ◌+◌, ◌-◌, ◌*◌, ◌/◌, ◌%◌, ◌<◌, ◌≤◌, ◌⊎◌, inl, inr, ⊎_elim, IsTrue, sym, ◌∙◌, ap, arith, eqb, ◌||◌}
 use Rattle.std.proofs.Math.Nat.{div-add-mod', mod-lt}
-use Rattle.std.proofs.lemmas.Nat.{div-mul-add, mod-mul-add, mul-le}
+use Rattle.std.proofs.lemmas.Nat.{div-mul-add, mod-mul-add}
 use Rattle.std.proofs.lemmas.Bool.{or_cases, eqb-true}
 use Rattle.conda_base.specs.Lines.{IsLineSize, IsAccessSize, IsWhole, IsLineOf, line_number, line_offset}
 

@@ -1,5 +1,5 @@
 -- Numbers and lines in a list of bytes, the lowest byte first.
-use Rattle.std.specs.Prelude.{ℕ, ◌+◌, ◌-◌, ◌*◌, ◌/◌, ◌%◌, List, [], ◌∷◌, ◌++◌, take, drop, if◌then◌else◌, nat_le}
+use Rattle.std.specs.Prelude.{ℕ, ◌+◌, ◌-◌, ◌*◌, List, [], ◌∷◌, ◌++◌, take, drop, if◌then◌else◌, nat_le}
 use Rattle.std.specs.Int.{to_le_bytes, w32}
 
 -- the bytes with the low `size` bytes of the value at `offset`, the lowest first

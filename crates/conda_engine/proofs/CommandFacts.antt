@@ -1,6 +1,6 @@
 -- A command, from its words to its files.
-use Rattle.std.proofs.Common.{◌≡◌, ◌≢◌, ◌≤◌, ◌<◌, ℕ, List, [], ◌∷◌, length, IsTrue, true, false, refl, sym, ◌∙◌, ap, subst, inl, inr, arith, not, ◌&&◌}
-use Rattle.std.specs.Prelude.{Bool, Option, Some, None, codes, nat_lt, unwrap_or, if◌then◌else◌}
+use Rattle.std.proofs.Common.{◌≡◌, ◌≢◌, ◌≤◌, ℕ, List, [], ◌∷◌, length, IsTrue, true, false, refl, sym, ◌∙◌, ap, subst, inl, inr, arith, ◌&&◌}
+use Rattle.std.specs.Prelude.{Bool, Some, None, codes, nat_lt, unwrap_or, if◌then◌else◌}
 use Rattle.std.specs.Str.{bytes_eq}
 use Rattle.std.proofs.lemmas.Bool.Decides.{nat_tests}
 use Rattle.std.proofs.lemmas.Slice.Eq.{bytes_eq-Decides}
@@ -11,12 +11,11 @@ use Rattle.conda_engine.specs.declared.status.Status.{Status}
 use Rattle.conda_engine.specs.declared.status.Status.TheVariants as status
 use Rattle.conda_engine.specs.Command.{CommandOutcome, IsUnmade, IsDone, IsStop, HasStopped, IsComplete, command_texts, verdict_of}
 use Rattle.conda_engine.specs.Image.{is_plain}
-use Rattle.conda_engine.specs.Loading.{IsLoaded}
 use Rattle.conda_engine.specs.Outcome.{Outcome, IsAnswerOf, IsDriveEnd, IsRunEnd, Leaves, texts_of}
-use Rattle.conda_engine.specs.Phases.{AreApart, IsFault, HasFront, HasFronts, HoldsFront, Texts, bytes_of}
+use Rattle.conda_engine.specs.Phases.{AreApart, IsFault, HasFront, HoldsFront, Texts, bytes_of}
 use Rattle.conda_engine.specs.Verdict.{setup_of, verdict, schedule_verdict, image_limit}
 use Rattle.conda_engine.specs.Words.{Files, files_of, are_different, are_values, differs}
-use Rattle.conda_engine.proofs.DriveFacts.{fault_after, caused_after, front_of_equal}
+use Rattle.conda_engine.proofs.DriveFacts.{fault_after, caused_after}
 
 -- two names that differ
 differ_apart : (a b : List ℕ) → differs a b ≡ true → a ≢ b
@@ -110,7 +109,7 @@ command_of_drive files a b c answer loaded p is within plain end h q = record {
     front_at : (role : Role) (name : List ℕ) (text : Texts → List ℕ) → role ≢ Image → HasFront b c role name (text (texts_of (setup_of loaded) (bytes_of b files.schedule)))
         → HasFront a c role name (text (command_texts files a))
     front_at role name text other h = record {
-      front = λ none is tells. subst (λ t. HoldsFront (c.file name) (text t)) (texts tells) (h.front (ap (λ r. r.created) (p.roles role other) ∙ none) is (at_b tells))
+      front = λ none is tells. subst (λ t. HoldsFront (c.file name) (text t)) (texts tells) (h.front (ap (λ r. r.created) (p.roles role other) ∙ none) is (at_b tells));
     }
 
 -- what a command's outcome says, clause by clause

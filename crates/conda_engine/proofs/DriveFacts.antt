@@ -1,12 +1,12 @@
 -- What the phases of a run leave in its files.
-use Rattle.std.proofs.Common.{◌≡◌, ◌≢◌, ℕ, List, [], ◌++◌, IsTrue, true, false, take, length, refl, sym, ◌∙◌, ap, subst, inl, inr}
+use Rattle.std.proofs.Common.{◌≡◌, ◌≢◌, ℕ, List, [], ◌++◌, IsTrue, true, false, length, refl, sym, ◌∙◌, ap, subst, inl, inr}
 use Rattle.std.specs.Prelude.{Option, Some, unwrap_or}
 use Rattle.conda_base.specs.declared.actor.Actor.{Actor}
 use Rattle.conda_host.specs.declared.outside.Role.{Role}
 use Rattle.conda_host.specs.declared.outside.Role.TheVariants.{Image, Schedule, Order, Report, Output}
-use Rattle.conda_host.specs.State.{HostState, IsLater, IsCreating, IsWriting, Creates}
+use Rattle.conda_host.specs.State.{HostState, IsLater, Creates}
 use Rattle.conda_host.specs.Whole.{WritesWhole}
-use Rattle.conda_host.proofs.Steps.{rose_after, rose_before, later_trans}
+use Rattle.conda_host.proofs.Steps.{rose_after, rose_before}
 use Rattle.offload_calls.specs.State.{Setup}
 use Rattle.run_report.specs.Texts.{report_text}
 use Rattle.chip_core.specs.Reports.{report_of_events, view_of_state}
@@ -16,7 +16,7 @@ use Rattle.conda_engine.specs.declared.run.Run.{Run}
 use Rattle.conda_engine.specs.declared.status.Status.{Status}
 use Rattle.conda_engine.specs.declared.status.Status.TheVariants as status
 use Rattle.conda_engine.specs.Outcome.{HoldFronts, HoldTexts, Leaves, IsRunEnd, Ends, EndsReport, Outcome, IsReported, IsAnswerOf, report_of, report_of_run, texts_of}
-use Rattle.conda_engine.specs.Phases.{HoldsFront, HasFront, HasFronts, HasText, IsFault, IsCaused, KeepsRole, KeepsOthers, AreApart, IsStarted, Texts, bytes_of}
+use Rattle.conda_engine.specs.Phases.{HoldsFront, HasFront, HasFronts, HasText, IsFault, IsCaused, KeepsRole, AreApart, IsStarted, Texts, bytes_of}
 use Rattle.conda_engine.specs.Progress.{IsRun}
 use Rattle.conda_engine.specs.Running.{HasRun}
 use Rattle.conda_engine.specs.Verdict.{schedule_verdict, run_events, order_of, output_of}
@@ -27,10 +27,10 @@ use Rattle.conda_engine.proofs.PhaseFacts.{holds_whole}
 pub front_of_whole : {a b c : HostState} (role : Role) (name text : List ℕ) → IsLater a b → Creates b role name → WritesWhole b c role text → HasFront a c role name text
 front_of_whole {a = a} {b = b} {c = c} role name text p made wrote = record {
   front = λ none is tells.
-    let tb : IsTrue b.tells = subst IsTrue (sym p.tells) tells in
-    let empty : b.file (b.role role).name ≡ Some (b.role role).written = ap b.file (made.name tb) ∙ made.file tb ∙ ap Some (sym (made.written tb)) in
-    let whole : (c.role role).written ≡ text = wrote.written tb ∙ ap (λ w. w ++ text) (made.written tb) in
-    holds_whole _ text (ap c.file (sym (made.name tb)) ∙ wrote.file tb empty ∙ ap Some whole)
+      let tb : IsTrue b.tells = subst IsTrue (sym p.tells) tells in
+      let empty : b.file (b.role role).name ≡ Some (b.role role).written = ap b.file (made.name tb) ∙ made.file tb ∙ ap Some (sym (made.written tb)) in
+      let whole : (c.role role).written ≡ text = wrote.written tb ∙ ap (λ w. w ++ text) (made.written tb) in
+      holds_whole _ text (ap c.file (sym (made.name tb)) ∙ wrote.file tb empty ∙ ap Some whole);
 }
 
 -- the fronts of the texts of a run
@@ -118,13 +118,13 @@ front_stays old new text same h = subst (λ f. HoldsFront f text) (sym same) h
 -- a role that stays as it was shows no new file
 no_front : {a b : HostState} (role : Role) (name text : List ℕ) → b.role role ≡ a.role role → HasFront a b role name text
 no_front role name text same = record {
-  front = λ none is tells. absurd (let turned : true ≡ false = sym is ∙ ap (λ r. r.created) same ∙ none in cc)
+  front = λ none is tells. absurd (let turned : true ≡ false = sym is ∙ ap (λ r. r.created) same ∙ none in cc);
 }
 
 -- a role that stayed, and then its file was made
 front_before : {a b c : HostState} (role : Role) (name text : List ℕ) → b.role role ≡ a.role role → IsLater a b → HasFront b c role name text → HasFront a c role name text
 front_before role name text same p h = record {
-  front = λ none is tells. h.front (ap (λ r. r.created) same ∙ none) is (subst IsTrue (sym p.tells) tells)
+  front = λ none is tells. h.front (ap (λ r. r.created) same ∙ none) is (subst IsTrue (sym p.tells) tells);
 }
 
 -- order and output were written: what is known then
@@ -176,7 +176,7 @@ fronts_stay files b c texts apart p others h = record {
 -- a front of one text is one of a text that is equal where the host tells
 pub front_of_equal : (a b c : HostState) (role : Role) (name text other : List ℕ) → IsLater a b → (IsTrue a.tells → text ≡ other) → HasFront b c role name text → HasFront b c role name other
 front_of_equal a b c role name text other p same h = record {
-  front = λ none is tells. subst (HoldsFront (c.file name)) (same (subst IsTrue p.tells tells)) (h.front none is tells)
+  front = λ none is tells. subst (HoldsFront (c.file name)) (same (subst IsTrue p.tells tells)) (h.front none is tells);
 }
 
 -- the answer of a run that was whole: its report is written, or the host failed
@@ -260,8 +260,8 @@ outcome_of_ends s files a b c answer p q started kept h = record {
     output = record { front = λ none is tells. subst (λ b. HoldsFront (c.file files.output) (output_of s b)) (same tells) (h.fronts.output (at_c tells)) };
     report = record {
       front = λ none is tells.
-        subst (λ b. HoldsFront (c.file files.report) (report_of s b)) (same tells)
-        (h.report.front (ap (λ r. r.created) (kept.same none) ∙ none) is (subst IsTrue (sym p.tells) tells))
+          subst (λ b. HoldsFront (c.file files.report) (report_of s b)) (same tells)
+          (h.report.front (ap (λ r. r.created) (kept.same none) ∙ none) is (subst IsTrue (sym p.tells) tells));
     };
   };
 }

@@ -1,8 +1,6 @@
 -- When a file is a plain image.
 use Rattle.std.proofs.Common.{◌≡◌, ℕ, ◌≤◌, ◌-◌, List, [], ◌++◌, take, drop, length, true, false, refl, sym, ap, ◌∙◌, arith, ◌&&◌, ◌+◌, ◌%◌, zero, suc, subst, replicate, append_assoc, length-append}
 use Rattle.std.specs.Prelude.{Bool, All, ◌∷◌}
-use Rattle.std.specs.Str.{bytes_eq}
-use Rattle.std.specs.Cmp.Lexicographic.{same_text, other_text}
 use Rattle.std.proofs.lemmas.Bool.Decides.{nat_tests}
 use Rattle.std.proofs.lemmas.Grind.{common_steps}
 use Rattle.std.proofs.lemmas.List.{length-replicate, take_all}
@@ -31,8 +29,8 @@ pub plain_by_headers : (file body headers : List ℕ) → body ≡ body_of file 
     → headers ≡ elf_header (at_of file) ++ program_header (at_of file) (length body) → take 84 file ≡ headers → is_plain file ≡ true
 plain_by_headers file body headers is fit are same =
     let whole : file ≡ plain (at_of file) (body_of file) =
-        sym (parts 84 file) ∙ ap (λ h. h ++ body_of file) (same ∙ are ∙ ap (λ b. elf_header (at_of file) ++ program_header (at_of file) (length b)) is)
-        ∙ append_assoc (elf_header (at_of file)) (program_header (at_of file) (length (body_of file))) (body_of file) in
+    sym (parts 84 file) ∙ ap (λ h. h ++ body_of file) (same ∙ are ∙ ap (λ b. elf_header (at_of file) ++ program_header (at_of file) (length b)) is)
+    ∙ append_assoc (elf_header (at_of file)) (program_header (at_of file) (length (body_of file))) (body_of file) in
     both_true _ _ ((bytes_eq-Decides file (plain (at_of file) (body_of file))).1 whole) (ap (λ b. fits_memory (at_of file) (length b)) (sym is) ∙ fit)
 
 -- what is left of a file behind its headers
@@ -81,11 +79,18 @@ plain_fits file body at plain is_at is_body = rw (is_at, is_body) (second_true _
 -- memory has its size, whatever bytes it was filled with
 length-memory : (at n filler : ℕ) (body : List ℕ) → at + length body ≤ n → length (replicate at filler ++ body ++ replicate (n - (at + length body)) filler) ≡ n
 length-memory at n filler body fit =
-    omega (arith, fit, length-append (replicate at filler ++ body) (replicate (n - (at + length body)) filler), length-append (replicate at filler) body,
-        length-replicate at filler, length-replicate (n - (at + length body)) filler)
+    omega (
+      arith,
+      fit,
+      length-append (replicate at filler ++ body) (replicate (n - (at + length body)) filler),
+      length-append (replicate at filler) body,
+      length-replicate at filler,
+      length-replicate (n - (at + length body)) filler,
+    )
 
 -- and it is whole lines
 pub plain_whole_lines : (at : ℕ) (body : List ℕ) (code : CodeView) → fits_memory at (length body) ≡ true → code ≡ code_with at body → IsWholeLines code
+unfolding memory_with
 plain_whole_lines at body code fits is =
     let bounds = fit_bounds at (length body) fits in
     subst IsWholeLines (sym is) (record { whole_base = refl; whole_bytes = ap (λ n. n % 64) (length-memory at memory_bytes 0 body bounds.1) })

@@ -1,5 +1,5 @@
 -- Files and roles over the phases of a run.
-use Rattle.std.proofs.Common.{◌≡◌, ◌≢◌, ℕ, List, [], IsTrue, false, take, length, refl, sym, ◌∙◌, ap, subst}
+use Rattle.std.proofs.Common.{◌≡◌, ◌≢◌, ℕ, List, IsTrue, length, sym, ◌∙◌, ap, subst}
 use Rattle.std.specs.Prelude.{Option, Some}
 use Rattle.std.proofs.Math.Seq.{take-length}
 use Rattle.conda_host.specs.declared.outside.Role.{Role}
@@ -15,7 +15,7 @@ holds_whole file text is = record { count = length text; front = rw take-length 
 -- a role and what the host tells are as they were before a reading call
 front_after_reading : {a b c : HostState} {read : Role} (role : Role) (name text : List ℕ) → IsReading a b read → role ≢ read → HasFront b c role name text → HasFront a c role name text
 front_after_reading role name text p other h = record {
-  front = λ none is tells. h.front (ap (λ r. r.created) (p.roles role other) ∙ none) is (subst IsTrue (sym p.later.tells) tells)
+  front = λ none is tells. h.front (ap (λ r. r.created) (p.roles role other) ∙ none) is (subst IsTrue (sym p.later.tells) tells);
 }
 
 pub fronts_after_reading : {a b c : HostState} (files : Files) (texts : Texts) → IsReading a b Schedule → HasFronts files b c texts → HasFronts files a c texts

@@ -1,5 +1,5 @@
 -- A run goes on.
-use Rattle.std.proofs.Common.{◌≡◌, ℕ, ◌+◌, ◌-◌, ◌<◌, ◌≤◌, zero, suc, true, false, add-one, List, [], ◌∷◌, ◌++◌, length, refl, sym, ap, ◌∙◌, subst, arith, append_assoc, append-nil, length-append}
+use Rattle.std.proofs.Common.{◌≡◌, ℕ, ◌+◌, ◌-◌, ◌<◌, ◌≤◌, zero, suc, true, false, add-one, List, [], ◌∷◌, ◌++◌, refl, sym, ap, ◌∙◌, subst, arith, append_assoc, append-nil, length-append}
 use Rattle.std.specs.Prelude.{Option, Some, None, is_some}
 use Rattle.std.proofs.lemmas.Grind.{flat_map-append}
 use Rattle.std.proofs.lemmas.List.{replicate-append-replicate}
@@ -134,9 +134,10 @@ line_ran : (s : Setup) (events : List Actor) (all before after : List (List ℕ)
     → ((s : Setup) (events : List Actor) → IsRun s events mid → Ran s events (hart_events count) stop new)
     → (good_events all ≡ (h.front ++ hart_events count) ++ good_events after) × Ran s events (h.front ++ hart_events count) stop new
 line_ran s events all before after line count stop mid new is counted h ran =
-    let left : good_events before ≡ hart_events count ++ good_events after = ap good_events is ∙ ap (λ c. events_before c (good_events after)) (sym counted) in
-    (h.parts ∙ ap (λ es. h.front ++ es) left ∙ sym (append_assoc h.front (hart_events count) (good_events after)),
-     ran_then s events h.front (hart_events count) stop mid new h.ran (ran s (events ++ h.front) (run_after s events h.front mid h.ran)))
+    let left : good_events before ≡ hart_events count ++ good_events after = ap good_events is ∙ ap (λ c. events_before c (good_events after)) (sym counted) in (
+      h.parts ∙ ap (λ es. h.front ++ es) left ∙ sym (append_assoc h.front (hart_events count) (good_events after)),
+      ran_then s events h.front (hart_events count) stop mid new h.ran (ran s (events ++ h.front) (run_after s events h.front mid h.ran)),
+    )
 
 pub lines_next : (s : Setup) (events : List Actor) (all before after : List (List ℕ)) (line : List ℕ) (count : ℕ) (stop : Option NotBuilt) (mid new : Run)
     → before ≡ line ∷ after → Some count ≡ line_count line → stop ≡ None → RanFront s events (good_events all) (good_events before) mid
@@ -154,7 +155,7 @@ lines_stopped s events all before after line count stop n mid new is counted som
     let more = line_ran s events all before after line count stop mid new is counted h ran in
     let front : Ran s events (h.front ++ hart_events count) (Some n) new = subst (λ m. Ran s events (h.front ++ hart_events count) m new) some more.1 in
     let whole : Ran s events (good_events all) (Some n) new =
-        subst (λ es. Ran s events es (Some n) new) (sym more.0) (ran_stop s events (h.front ++ hart_events count) (good_events after) n new front) in
+    subst (λ es. Ran s events es (Some n) new) (sym more.0) (ran_stop s events (h.front ++ hart_events count) (good_events after) n new front) in
     record { ending_is = ap (λ u. ending_at u (first_bad all)) whole.stop_is; run = whole.run }
 
 -- the first bad line is behind a good one

@@ -1,8 +1,7 @@
 -- A schedule that was run, from its bytes to its status.
-use Rattle.std.proofs.Common.{◌≡◌, ◌<◌, ◌↔◌, ℕ, arith, List, [], length, take, IsTrue, true, false, refl, sym, ap, ◌∙◌, subst}
+use Rattle.std.proofs.Common.{◌≡◌, ◌<◌, ◌↔◌, ℕ, arith, List, [], length, take, IsTrue, true, false, refl, ap, ◌∙◌, subst}
 use Rattle.std.specs.Prelude.{Bool, nat_lt}
 use Rattle.std.proofs.lemmas.Bool.Decides.{nat_tests}
-use Rattle.std.proofs.lemmas.Grind.{common_steps}
 use Rattle.conda_host.specs.declared.outside.Role.TheVariants.{Schedule}
 use Rattle.conda_host.specs.State.{HostState}
 use Rattle.conda_host.specs.Whole.{ReadsPrefix}

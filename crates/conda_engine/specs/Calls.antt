@@ -1,5 +1,5 @@
 -- What the failures of calls of the host are.
-use Rattle.std.specs.Prelude.{◌≡◌, ◌<◌, ℕ, List, length, IsTrue}
+use Rattle.std.specs.Prelude.{◌≡◌, ℕ}
 use Rattle.conda_host.specs.declared.outside.Role.{Role}
 use Rattle.conda_host.specs.State.{HostState, RoseForAll}
 use Rattle.conda_host.specs.Whole.{PassesLimit}

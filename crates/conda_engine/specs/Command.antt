@@ -1,14 +1,14 @@
 -- What a command answers and leaves.
-use Rattle.std.specs.Prelude.{◌≡◌, ◌≢◌, ◌⊎◌, ℕ, List, IsTrue, Some, None, IfSome}
+use Rattle.std.specs.Prelude.{◌≡◌, ◌≢◌, ◌⊎◌, ℕ, List, IsTrue, Some}
 use Rattle.conda_host.specs.declared.outside.Role.{Role}
-use Rattle.conda_host.specs.declared.outside.Role.TheVariants.{Config, Image, Schedule, Order, Report, Output, Source, Program}
+use Rattle.conda_host.specs.declared.outside.Role.TheVariants.{Image, Schedule, Order, Report, Output}
 use Rattle.conda_host.specs.State.{HostState, Rose}
 use Rattle.conda_engine.specs.declared.status.Status.{Status}
 use Rattle.conda_engine.specs.declared.status.Status.TheVariants as status
 use Rattle.conda_engine.specs.Outcome.{IsAnswerOf, Leaves, texts_of}
 use Rattle.conda_engine.specs.Phases.{IsCaused, HasFronts, KeepsRole, Texts, bytes_of}
 use Rattle.conda_engine.specs.Verdict.{setup_of, verdict}
-use Rattle.conda_engine.specs.Words.{Files, files_of}
+use Rattle.conda_engine.specs.Words.{Files}
 
 -- the status that the bytes of image and schedule lead to
 abbrev pub verdict_of : Files → HostState → Status

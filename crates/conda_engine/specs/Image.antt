@@ -1,5 +1,5 @@
 -- Plain images: ELF files of one segment that is loaded, readable, writable and executable.
-use Rattle.std.specs.Prelude.{ℕ, ◌≡◌, ◌+◌, ◌-◌, ◌*◌, ◌/◌, ◌%◌, ◌≤◌, Bool, ◌&&◌, ◌==◌, nat_le, List, [], ◌∷◌, ◌++◌, length, take, drop, replicate}
+use Rattle.std.specs.Prelude.{ℕ, ◌+◌, ◌-◌, ◌%◌, Bool, ◌&&◌, ◌==◌, nat_le, List, [], ◌∷◌, ◌++◌, length, drop, replicate}
 use Rattle.std.specs.Str.{bytes_eq}
 use Rattle.std.specs.Int.{to_le_bytes, w16, w32}
 use Rattle.conda_base.specs.Bytes.{value_at}
@@ -46,8 +46,8 @@ body_of file = drop 84 file
 abbrev pub is_plain : List ℕ → Bool
 is_plain file = bytes_eq file (plain (at_of file) (body_of file)) && fits_memory (at_of file) (length (body_of file))
 
--- memory with these bytes at an address, and zeros elsewhere
-abbrev pub memory_with : ℕ → List ℕ → List ℕ
+-- memory with these bytes at an address, and zeros elsewhere (unfoldable, since at known bytes it has 16777216 numbers)
+unfoldable pub memory_with : ℕ → List ℕ → List ℕ
 memory_with at body = replicate at 0 ++ body ++ replicate (memory_bytes - (at + length body)) 0
 
 -- that memory, from address 0 on, with instructions fetched from the bytes alone

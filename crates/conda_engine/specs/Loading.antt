@@ -1,7 +1,6 @@
 -- The first steps of a run: a chip with the image in it.
 use Rattle.std.specs.Prelude.{◌≡◌, ℕ, ◌<◌, ◌≤◌, List, [], length, IsTrue, true, false}
 use Rattle.conda_host.specs.declared.outside.Role.TheVariants.{Image}
-use Rattle.conda_host.specs.declared.outside.Role.{Role}
 use Rattle.conda_host.specs.State.{HostState, Rose}
 use Rattle.chip_core.specs.ChipView.{ChipView}
 use Rattle.chip_core.specs.Stands.{Stands}

@@ -1,7 +1,6 @@
 -- How a run ends: its answer, and what its files hold.
 use Rattle.std.specs.Prelude.{◌≡◌, ◌≢◌, ◌⊎◌, ℕ, List, length, IsTrue, Some}
-use Rattle.conda_host.specs.declared.outside.Role.{Role}
-use Rattle.conda_host.specs.declared.outside.Role.TheVariants.{Config, Image, Schedule, Order, Report, Output, Source, Program}
+use Rattle.conda_host.specs.declared.outside.Role.TheVariants.{Schedule, Report}
 use Rattle.conda_host.specs.State.{HostState, IsLater}
 use Rattle.offload_calls.specs.State.{Setup}
 use Rattle.run_report.specs.Texts.{report_text}
@@ -9,7 +8,7 @@ use Rattle.chip_core.specs.Reports.{view_of_chip, report_of_events}
 use Rattle.conda_engine.specs.declared.run.Run.{Run}
 use Rattle.conda_engine.specs.declared.status.Status.{Status}
 use Rattle.conda_engine.specs.declared.status.Status.TheVariants as status
-use Rattle.conda_engine.specs.Phases.{IsFault, IsCaused, HoldsFront, HasFront, HasFronts, KeepsRole, KeepsOthers, Texts}
+use Rattle.conda_engine.specs.Phases.{IsFault, IsCaused, HoldsFront, HasFront, HasFronts, KeepsRole, Texts}
 use Rattle.conda_engine.specs.Verdict.{schedule_verdict, order_of, output_of, run_events}
 use Rattle.conda_engine.specs.Words.{Files}
 

@@ -2,7 +2,7 @@
 use Rattle.std.specs.Prelude.{◌≡◌, ◌≢◌, ℕ, List, [], take, IsTrue, false, Option, Some, None, IsSomeAnd, unwrap_or}
 use Rattle.conda_host.specs.declared.outside.Role.{Role}
 use Rattle.conda_host.specs.declared.outside.Role.TheVariants.{Image, Schedule, Order, Report, Output}
-use Rattle.conda_host.specs.State.{HostState, IsLater, IsCreated, Rose}
+use Rattle.conda_host.specs.State.{HostState, IsCreated, Rose}
 use Rattle.conda_engine.specs.declared.status.Status.{Status}
 use Rattle.conda_engine.specs.declared.status.Status.TheVariants as status
 use Rattle.conda_engine.specs.Words.{Files}

@@ -1,11 +1,11 @@
 -- What the bytes of image and schedule lead to.
-use Rattle.std.specs.Prelude.{ℕ, Bool, true, false, not, List, [], ◌∷◌, length, take, Option, if◌then◌else◌, nat_lt}
+use Rattle.std.specs.Prelude.{ℕ, Bool, not, List, length, take, if◌then◌else◌, nat_lt}
 use Rattle.conda_host.specs.declared.outside.Role.TheVariants.{Image, Schedule}
 use Rattle.conda_base.specs.declared.actor.Actor.{Actor}
 use Rattle.schedule_log.specs.Schedule.{judged_lines, good_events, first_bad}
 use Rattle.schedule_log.specs.Texts.{order_text}
 use Rattle.rv32_hart.specs.Code.{CodeView}
-use Rattle.offload_calls.specs.State.{Setup, State, start}
+use Rattle.offload_calls.specs.State.{Setup, start}
 use Rattle.chip_core.specs.Runs.{flat, journal, first_unbuilt_from, run_events_from}
 use Rattle.conda_engine.specs.declared.run.Ending.{Ending}
 use Rattle.conda_engine.specs.declared.run.Ending.TheVariants as Ends

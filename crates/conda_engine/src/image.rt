@@ -8,6 +8,7 @@ use rv32_hart::Code;
 use std::alloc::{AllocError, Global};
 
 const HEADERS: usize = 84;
+
 const MEMORY_BYTES: usize = 16_777_216;
 
 /// A plain image: the bytes of its one segment, and their address, which is the entry too.
@@ -47,10 +48,8 @@ fn fits(at: u32, size: usize) -> bool
 
 /// The plain image that a file is.
 pub fn read_plain(file: &[u8]) -> Option<PlainImage<'_>>
-    ensures {
-        MatchOption result (is_plain file.now ≡ false)
-            (λ i. (is_plain file.now ≡ true) × (i.at ≡ at_of file.now) × (i.body.now ≡ body_of file.now))
-    }
+    ensures { MatchOption result (is_plain file.now ≡ false)
+        (λ i. (is_plain file.now ≡ true) × (i.at ≡ at_of file.now) × (i.body.now ≡ body_of file.now)) }
 {
     if file.len() < HEADERS {
         return None;

@@ -17,3 +17,5 @@ pub use command::conda;
 pub use status::Status;
 pub use text::status_text;
 
+#[cfg(test)]
+mod tests;

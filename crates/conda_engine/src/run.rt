@@ -1,10 +1,10 @@
 // A schedule is run.
 ghost use Rattle.std.specs.Prelude.{◌≤◌, vec_len};
 
+use arrayvec::ArrayVec;
 use chip_core::{Chip, Event, NotBuilt};
 use conda_base::Actor;
 use schedule_log::{entry_text, next_line, read_line};
-use arrayvec::ArrayVec;
 use std::alloc::{AllocError, Global};
 
 /// How the run of a schedule's lines ended.

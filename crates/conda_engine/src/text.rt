@@ -78,7 +78,13 @@ pub fn status_text(s: &Status, out: &mut ArrayVec<u8, 128>)
         Status::OutOfMemory => push_bytes(out, b"conda: out of memory"),
         Status::NotBuilt { pc, word } => {
             push_bytes(out, b"conda: not ");
-            push_pair(out, b"built: word ", u64::from(word), b" at ", u64::from(pc));
+            push_pair(
+                out,
+                b"built: word ",
+                u64::from(word),
+                b" at ",
+                u64::from(pc),
+            );
         }
     }
 }

@@ -1,5 +1,5 @@
 -- Writes to the first items of a list.
-use Rattle.std.proofs.Common.{◌≡◌, ◌<◌, ℕ, List, length, take, set, arith, rules}
+use Rattle.std.proofs.Common.{◌≡◌, ◌<◌, ℕ, List, length, take, set, arith}
 use Rattle.std.proofs.lemmas.List.{length-take}
 use Rattle.std.proofs.Math.Seq.{take-set-lt}
 

@@ -35,7 +35,7 @@ abbrev pub committed : Counts → ℕ → Counts
 committed counts core = record {
   backs = slice_set counts.backs core 0;
   retries = counts.retries;
-  locked = locked_without core counts.locked
+  locked = locked_without core counts.locked;
 }
 
 -- the locked try is another actor's

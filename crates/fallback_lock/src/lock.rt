@@ -1,7 +1,13 @@
 // Rollback counts and the lock.
 ghost use Rattle.std.specs.Prelude.{◌≡◌, ◌+◌, ◌<◌, ◌≤◌, ◌↔◌, IsTrue, length, None};
 ghost use Rattle.fallback_lock.specs.Locks.{
-    Counts, fresh_counts, backs_of, with_backs, with_locked, committed, IsAnothers
+  Counts,
+  fresh_counts,
+  backs_of,
+  with_backs,
+  with_locked,
+  committed,
+  IsAnothers,
 };
 
 use conda_base::Actor;

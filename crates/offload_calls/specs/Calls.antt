@@ -1,5 +1,5 @@
 -- The table of calls, by the number in x17.
-use Rattle.std.specs.Prelude.{ℕ, ◌%◌, ◌==◌, if◌then◌else◌}
+use Rattle.std.specs.Prelude.{◌%◌, ◌==◌, if◌then◌else◌}
 use Rattle.rv32_hart.specs.declared.regs.Regs.{Regs}
 use Rattle.rv32_hart.specs.Act.{next_pc, value_of}
 use Rattle.offload_calls.specs.declared.serve.Served.{Served}

@@ -59,14 +59,14 @@ abbrev pub call_effect : List ℕ → Regs → Effect
 call_effect memory r = record {
   hart = record { regs = regs_after_call r; status = status_after_call (served r) };
   memory = memory;
-  puts = puts_of_call (served r)
+  puts = puts_of_call (served r);
 }
 
 abbrev pub instr_effect : CodeView → List ℕ → Regs → Instr → Access → Effect
 instr_effect code memory r i access = record {
   hart = runs (after r i (loaded_value code memory access));
   memory = memory_after code memory access;
-  puts = []
+  puts = [];
 }
 
 abbrev pub access_effect : CodeView → List ℕ → Regs → Instr → Access → Effect
@@ -90,7 +90,7 @@ hart_does f h e = record {
   memory = e.memory;
   harts = updated f.harts h e.hart;
   cores = f.cores;
-  output = f.output ++ e.puts
+  output = f.output ++ e.puts;
 }
 
 -- one act of hart h, where it runs

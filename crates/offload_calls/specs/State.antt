@@ -37,7 +37,7 @@ updated f j x k = if k == j then x else f k
 abbrev pub start_hart : Setup → ℕ → Hart
 start_hart s i = record {
   regs = record { pc = s.entry; x = slice_set (slice_set (start_regs 0).x 10 i) 11 s.harts };
-  status = Hart_is.Run
+  status = Hart_is.Run;
 }
 
 -- a core starts idle, with all registers and pc 0

@@ -6,6 +6,7 @@ ghost use Rattle.offload_calls.specs.Calls.{served, regs_after_call};
 use rv32_hart::{Regs, Trap};
 
 const EXIT: u32 = 93;
+
 const PUT: u32 = 1003;
 
 /// What a hart's call asks for, beside its effect on the registers.

@@ -1,4 +1,4 @@
-use Rattle.std.proofs.Common.{◌≡◌, sym, ◌∙◌, ap, refl, true, take, drop, length, ◌-◌, ◌++◌}
+use Rattle.std.proofs.Common.{◌≡◌, ◌∙◌, ap, true, take, drop, length, ◌-◌, ◌++◌}
 use Rattle.std.specs.Cmp.Lexicographic.{same_text}
 use Rattle.conda_engine.specs.Image.{fits_memory, at_of, elf_header, program_header, body_of}
 use Rattle.conda_engine.proofs.ImageFacts.{unfit, plain_by_headers, rest_of}

@@ -1,6 +1,4 @@
 use Rattle.std.proofs.Common.{[]}
-use Rattle.schedule_log.specs.Schedule.{judged_lines}
-use Rattle.conda_engine.specs.Progress.{RanLines}
 use Rattle.conda_engine.proofs.RunningFacts.{text_run}
 use Rattle.conda_engine.proofs.running.run_text.Goals as goal
 

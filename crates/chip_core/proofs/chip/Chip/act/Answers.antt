@@ -1,4 +1,4 @@
-use Rattle.std.proofs.Common.{sym, refl, ap, ◌∙◌}
+use Rattle.std.proofs.Common.{refl}
 use Rattle.chip_core.proofs.StandFacts.{acts_planned, acts_trapped}
 use Rattle.chip_core.proofs.chip.Chip.act.Goals as goal
 

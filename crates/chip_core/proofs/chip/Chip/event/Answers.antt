@@ -1,4 +1,4 @@
-use Rattle.std.proofs.Common.{◌≡◌, sym, refl, ap, ◌∙◌, List}
+use Rattle.std.proofs.Common.{◌≡◌, sym, ◌∙◌, List}
 use Rattle.conda_base.specs.declared.actor.Actor.{Actor}
 use Rattle.offload_calls.specs.State.{Setup}
 use Rattle.chip_core.specs.Runs.{happens, flat}
@@ -18,8 +18,8 @@ returns-then-is_running-clause-output c = λ s events h.
 happens_not : (c : goal.After-new) (s : Setup) (events : List Actor) → Stands s c.args.self.now events → happens s (flat s events) c.args.a ≡ flat s events
 happens_not c s events h =
     elim c.match-a.branch [
-      in-Hart+else-is_running w ↦ happens-stopped s (flat s events) c.args.self.now c.args.a w.in-Hart.h h w.in-Hart.is c.requires (sym w.if-is_running.false ∙ w.is_running.ensures)
-    | in_default w ↦ happens-core s (flat s events) c.args.a w.in_default.field-0 w.in_default.is
+      | in-Hart+else-is_running w ↦ happens-stopped s (flat s events) c.args.self.now c.args.a w.in-Hart.h h w.in-Hart.is c.requires (sym w.if-is_running.false ∙ w.is_running.ensures)
+      | in_default w ↦ happens-core s (flat s events) c.args.a w.in_default.field-0 w.in_default.is
     ]
 
 pub returns-clause-stands : goal.returns-clause-stands

@@ -1,9 +1,8 @@
-use Rattle.std.proofs.Common.{◌≡◌, ◌+◌, ◌≤◌, ℕ, List, ◌++◌, length}
-use Rattle.std.specs.Prelude.{None}
+use Rattle.std.proofs.Common.{◌≡◌, ◌+◌, ◌≤◌, List, length}
 use Rattle.conda_base.specs.declared.actor.Actor.{Actor}
 use Rattle.schedule_log.specs.Schedule.{judged_lines, good_events, first_bad_from, first_bad}
 use Rattle.offload_calls.specs.State.{Setup}
-use Rattle.conda_engine.specs.Progress.{IsRun, Ran}
+use Rattle.conda_engine.specs.Progress.{IsRun}
 use Rattle.conda_engine.proofs.ProgressFacts.{RanFront}
 use Rattle.conda_engine.proofs.run.Run.lines.Given as goal
 

@@ -1,4 +1,4 @@
-use Rattle.std.proofs.Common.{◌≡◌, ℕ, List, ap, None}
+use Rattle.std.proofs.Common.{ℕ, List, ap, None}
 use Rattle.std.proofs.lemmas.List.{take-replicate}
 use Rattle.fallback_lock.specs.Locks.{Counts}
 use Rattle.fallback_lock.proofs.lock.Lock.new.Goals as goal

@@ -1,0 +1,221 @@
+// Worked examples of the command, over a host in memory.
+use crate::{Status, conda, status_text};
+use arrayvec::ArrayVec;
+use conda_host::{MemoryHost, Role};
+use std::alloc::{AllocError, Global};
+use std::test::Fail;
+
+const ENTRY: u32 = 65536;
+
+// The fields of the headers of a plain image, but for the entry and the sizes.
+const FIRST: [u32; 6] = [0x464c_457f, 0x0001_0101, 0, 0, 0x00f3_0002, 1];
+
+const MIDDLE: [u32; 8] = [52, 0, 0, 0x0020_0034, 1, 0, 1, 84];
+
+// addi x10,x0,65; addi x17,x0,1003; ecall; addi x10,x0,0; addi x17,x0,93; ecall
+const ONE_LETTER: [u32; 6] = [
+    0x0410_0513,
+    0x3eb0_0893,
+    0x0000_0073,
+    0x0000_0513,
+    0x05d0_0893,
+    0x0000_0073,
+];
+
+fn push_words(file: &mut Vec<u8>, words: &[u32]) -> Result<(), AllocError> {
+    for word in words {
+        file.extend_from_slice(&word.to_le_bytes())?;
+    }
+    Ok(())
+}
+
+fn plain(alloc: Global, words: &[u32]) -> Result<Vec<u8>, AllocError> {
+    let size = (words.len() * 4 % 65536) as u32;
+    let mut file = Vec::new(alloc);
+    push_words(&mut file, &FIRST)?;
+    push_words(&mut file, &[ENTRY])?;
+    push_words(&mut file, &MIDDLE)?;
+    push_words(&mut file, &[ENTRY, ENTRY, size, size, 7, 4])?;
+    push_words(&mut file, words)?;
+    Ok(file)
+}
+
+fn named(alloc: Global, names: &[&str]) -> Result<Vec<String>, AllocError> {
+    let mut words = Vec::new(alloc);
+    for name in names {
+        words.push(String::from_str(alloc, name)?)?;
+    }
+    Ok(words)
+}
+
+// Runs an image on a schedule, over a host of which one call fails, if its number isn't 0.
+fn run(
+    alloc: Global,
+    image: Vec<u8>,
+    schedule: &[u8],
+    failing: u64,
+) -> Result<(Status, MemoryHost), AllocError> {
+    let words = named(
+        alloc,
+        &["run", "image", "schedule", "order", "report", "output"],
+    )?;
+    let mut inputs = Vec::new(alloc);
+    inputs.push((String::from_str(alloc, "image")?, image))?;
+    let schedule = Vec::from_slice(alloc, schedule)?;
+    inputs.push((String::from_str(alloc, "schedule")?, schedule))?;
+    let outputs = named(alloc, &["order", "report", "output"])?;
+    let mut numbers = Vec::new(alloc);
+    numbers.push(failing)?;
+    let mut host = MemoryHost::new(alloc, inputs, outputs, 1000, 1000, numbers)?;
+    let status = conda(alloc, &words, &mut host);
+    Ok((status, host))
+}
+
+#[test]
+fn an_empty_schedule(rt: HostRuntime) -> Result<(), Fail> {
+    let alloc = rt.alloc();
+    let (status, host) = run(alloc, plain(alloc, &ONE_LETTER)?, b"", 0)?;
+    assert_eq!(rt; status, Status::Done);
+    let report =
+        "events 0\noutput 0\nhart 0 run pc 00010000\nx11 00000001\ncore 0 idle pc 00000000\n";
+    assert_eq!(rt; host.file("report"), Some(report.as_bytes()));
+    assert_eq!(rt; host.file("order"), Some(b"".as_slice()));
+    Ok(())
+}
+
+#[test]
+fn one_letter(rt: HostRuntime) -> Result<(), Fail> {
+    let alloc = rt.alloc();
+    let (status, host) = run(alloc, plain(alloc, &ONE_LETTER)?, b"h0 6", 0)?;
+    assert_eq!(rt; status, Status::Done);
+    let report =
+        "events 6\noutput 1\nhart 0 exit 00000000 pc 00010014\nx11 00000001\nx17 0000005d\ncore 0 idle pc 00000000\n";
+    assert_eq!(rt; host.file("report"), Some(report.as_bytes()));
+    assert_eq!(rt;
+        host.file("order"),
+        Some(b"s 0\ns 0\ns 0\ns 0\ns 0\ns 0\n".as_slice())
+    );
+    assert_eq!(rt; host.file("output"), Some(b"A".as_slice()));
+    Ok(())
+}
+
+#[test]
+fn one_event_past_the_exit(rt: HostRuntime) -> Result<(), Fail> {
+    let alloc = rt.alloc();
+    let (status, host) = run(alloc, plain(alloc, &ONE_LETTER)?, b"h0 6\nh0 1\n", 0)?;
+    assert_eq!(rt; status, Status::Done);
+    assert_eq!(rt;
+        host.file("order"),
+        Some(b"s 0\ns 0\ns 0\ns 0\ns 0\ns 0\n- h0\n".as_slice())
+    );
+    assert_eq!(rt; host.file("output"), Some(b"A".as_slice()));
+    Ok(())
+}
+
+#[test]
+fn a_misaligned_target(rt: HostRuntime) -> Result<(), Fail> {
+    let alloc = rt.alloc();
+    let (status, host) = run(alloc, plain(alloc, &[0x0000_0163])?, b"h0 2", 0)?;
+    assert_eq!(rt; status, Status::Done);
+    assert_eq!(rt; host.file("order"), Some(b"s 0\n- h0\n".as_slice()));
+    let report =
+        "events 2\noutput 0\nhart 0 trap 0 00010002 pc 00010000\nx11 00000001\ncore 0 idle pc 00000000\n";
+    assert_eq!(rt; host.file("report"), Some(report.as_bytes()));
+    Ok(())
+}
+
+// sw x11,64(x0) changes line 1.
+#[test]
+fn a_store_changes_a_line(rt: HostRuntime) -> Result<(), Fail> {
+    let alloc = rt.alloc();
+    let (status, host) = run(alloc, plain(alloc, &[0x04b0_2023])?, b"h0 1", 0)?;
+    assert_eq!(rt; status, Status::Done);
+    let report = host.file("report").ok_or("report")?;
+    let line = b"line 00000040 0100000000000000";
+    assert!(rt;
+        report
+            .windows(line.len())
+            .any(|part| part == line.as_slice())
+    );
+    Ok(())
+}
+
+#[test]
+fn a_word_that_is_not_built(rt: HostRuntime) -> Result<(), Fail> {
+    let alloc = rt.alloc();
+    let (status, host) = run(alloc, plain(alloc, &[0xffff_ffff])?, b"h0 1", 0)?;
+    let pc = ENTRY;
+    assert_eq!(rt;
+        status,
+        Status::NotBuilt {
+            pc,
+            word: 0xffff_ffff
+        }
+    );
+    assert_eq!(rt; host.file("order"), Some(b"".as_slice()));
+    assert_eq!(rt; host.file("report"), None);
+    Ok(())
+}
+
+#[test]
+fn a_bad_line(rt: HostRuntime) -> Result<(), Fail> {
+    let alloc = rt.alloc();
+    let (status, host) = run(alloc, plain(alloc, &ONE_LETTER)?, b"h0 1\nh9 1\n", 0)?;
+    assert_eq!(rt; status, Status::Schedule { line: 2, why: 1 });
+    assert_eq!(rt; host.file("order"), Some(b"s 0\n".as_slice()));
+    assert_eq!(rt; host.file("report"), None);
+    Ok(())
+}
+
+#[test]
+fn a_bad_image(rt: HostRuntime) -> Result<(), Fail> {
+    let alloc = rt.alloc();
+    let mut image = plain(alloc, &ONE_LETTER)?;
+    let _last = image.pop();
+    let (status, host) = run(alloc, image, b"", 0)?;
+    assert_eq!(rt; status, Status::Image);
+    assert_eq!(rt; host.file("order"), None);
+    Ok(())
+}
+
+#[test]
+fn faults_of_the_host(rt: HostRuntime) -> Result<(), Fail> {
+    let alloc = rt.alloc();
+    let (status, _) = run(alloc, plain(alloc, &ONE_LETTER)?, b"h0 6", 1)?;
+    assert_eq!(rt; status, Status::ReadFault(Role::Image));
+    let (status, _) = run(alloc, plain(alloc, &ONE_LETTER)?, b"h0 6", 5)?;
+    assert_eq!(rt; status, Status::WriteFault(Role::Order));
+    Ok(())
+}
+
+#[test]
+fn words_and_lines(rt: HostRuntime) -> Result<(), Fail> {
+    let alloc = rt.alloc();
+    let mut host = MemoryHost::new(
+        alloc,
+        Vec::new(alloc),
+        Vec::new(alloc),
+        0,
+        1,
+        Vec::new(alloc),
+    )?;
+    let words = named(alloc, &["run", "i", "s", "o", "r", "i"])?;
+    let status = conda(alloc, &words, &mut host);
+    assert_eq!(rt; status, Status::Usage);
+    let mut text: ArrayVec<u8, 128> = ArrayVec::new();
+    status_text(&status, &mut text);
+    assert_eq!(rt; text.as_slice(), b"conda: usage".as_slice());
+    Ok(())
+}
+
+#[test]
+fn lines_of_statuses(rt: HostRuntime) {
+    let mut text: ArrayVec<u8, 128> = ArrayVec::new();
+    let status = Status::NotBuilt { pc: 65536, word: 7 };
+    status_text(&status, &mut text);
+    assert_eq!(rt;
+        text.as_slice(),
+        b"conda: not built: word 7 at 65536".as_slice()
+    );
+    assert_eq!(rt; status.code(), 10);
+}

@@ -1,0 +1,119 @@
+// Which hart caches hold each line.
+ghost use Rattle.std.specs.Prelude.{ℕ, ◌≡◌, ◌+◌, ◌-◌, ◌<◌, ◌≤◌, ◌==◌, ◌||◌, ◌&&◌, not, IsTrue, IfOk, length, replicate};
+ghost use Rattle.mesi_directory.specs.Rows.{Rows, IsRow, AreRows, IsIn, row_of, with_row, has, shared_with, without};
+ghost use Rattle.mesi_directory.specs.declared.row.Row.TheVariants.{Nobody, Owner};
+
+use crate::Row;
+use conda_base::Line;
+use std::alloc::{AllocError, Global};
+use std::marker::Model;
+
+/// A row for each of some lines that follow one another. After `new` it takes no memory, and each
+/// call reaches its row at once.
+#[derive(Drop)]
+pub struct Directory {
+    first: Line,
+    rows: Vec<Row>,
+}
+
+impl Model for Directory {
+    ghost use Rattle.mesi_directory.specs.Rows.{Rows, AreRows};
+
+    ghost Value = { Rows };
+
+    ghost view = { λ d. record { first = d.first.0; rows = d.rows.items } };
+
+    ghost invariant = { λ d. AreRows d.rows.items };
+}
+
+impl Directory {
+    /// A directory of `count` lines from `first` on, none of them held.
+    pub fn new(alloc: Global, first: Line, count: u32) -> Result<Directory, AllocError>
+        ensures { IfOk result (λ d. d ≡ record { first = first.0; rows = replicate count Nobody }) }
+    {
+        let rows = vec![in alloc; Row::Nobody; count as usize]?;
+        Ok(Directory { first, rows })
+    }
+
+    fn place(&self, l: Line) -> usize
+        requires { IsIn self.now l }
+        ensures place { result ≡ l.0 - self.now.first }
+        ensures within { result < length self.now.rows }
+    {
+        (l.0 - self.first.0) as usize
+    }
+
+    /// The holders of a line.
+    pub fn row(&self, l: Line) -> Row
+        requires { IsIn self.now l }
+        ensures value { result ≡ row_of self.now l }
+        ensures valid { IsRow result }
+    {
+        self.rows[self.place(l)]
+    }
+
+    /// Makes `h` the owner of a line, and its only holder.
+    pub fn own(&mut self, l: Line, h: u8)
+        requires line { IsIn self.old l }
+        requires holder { h < 12 }
+        ensures row { row_of self.new l ≡ Owner h }
+        ensures holders { (k : ℕ) → has (row_of self.new l) k ≡ (k == h) }
+        ensures others { self.new ≡ with_row self.old l (Owner h) }
+    {
+        let place = self.place(l);
+        self.rows[place] = Row::Owner(h);
+    }
+
+    /// Adds `h` to the holders of a line. All of them share it from then on, also one that owned it.
+    pub fn share(&mut self, l: Line, h: u8)
+        requires line { IsIn self.old l }
+        requires holder { h < 12 }
+        ensures row { row_of self.new l ≡ shared_with (row_of self.old l) h }
+        ensures holders { (k : ℕ) → has (row_of self.new l) k ≡ (has (row_of self.old l) k || k == h) }
+        ensures others { self.new ≡ with_row self.old l (shared_with (row_of self.old l) h) }
+    {
+        let place = self.place(l);
+        self.rows[place] = self.rows[place].shared_with(h);
+    }
+
+    /// Takes `h`, a holder of a line, out of its holders. Those that are left share it.
+    pub fn leave(&mut self, l: Line, h: u8)
+        requires line { IsIn self.old l }
+        requires held { IsTrue (has (row_of self.old l) h) }
+        ensures row { row_of self.new l ≡ without (row_of self.old l) h }
+        ensures holders { (k : ℕ) → has (row_of self.new l) k ≡ (has (row_of self.old l) k && not (k == h)) }
+        ensures others { self.new ≡ with_row self.old l (without (row_of self.old l) h) }
+    {
+        let place = self.place(l);
+        self.rows[place] = self.rows[place].without(h);
+    }
+}
+
+#[cfg(test)]
+mod tests {
+    use super::*;
+
+    #[test]
+    fn an_owner_becomes_a_sharer(rt: HostRuntime) -> Result<(), AllocError> {
+        let mut directory = Directory::new(rt.alloc(), Line(16), 3)?;
+        directory.own(Line(17), 2);
+        assert_eq!(rt; directory.row(Line(17)), Row::Owner(2));
+        directory.share(Line(17), 11);
+        assert_eq!(rt; directory.row(Line(17)), Row::Shared(0b1000_0000_0100));
+        assert_eq!(rt; directory.row(Line(16)), Row::Nobody);
+        assert_eq!(rt; directory.row(Line(18)), Row::Nobody);
+        Ok(())
+    }
+
+    #[test]
+    fn the_last_holder_leaves_nobody(rt: HostRuntime) -> Result<(), AllocError> {
+        let mut directory = Directory::new(rt.alloc(), Line(16), 1)?;
+        directory.share(Line(16), 0);
+        directory.share(Line(16), 4);
+        directory.leave(Line(16), 0);
+        assert_eq!(rt; directory.row(Line(16)), Row::Shared(0b1_0000));
+        directory.leave(Line(16), 4);
+        assert_eq!(rt; directory.row(Line(16)), Row::Nobody);
+        Ok(())
+    }
+}

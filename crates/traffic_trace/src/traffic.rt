@@ -1,0 +1,97 @@
+// Totals and the last notes.
+ghost use Rattle.std.specs.Prelude.{◌≡◌, IfOk, slice_get};
+ghost use Rattle.traffic_trace.specs.Notes.{no_notes, noted, total_of};
+
+use crate::note::{Kind, Note};
+use circular_buffer::HeapCircularBuffer;
+use std::alloc::{AllocError, Global};
+use std::marker::Model;
+
+/// The traffic so far: how many notes of each kind there were, and the last notes.
+#[derive(Drop)]
+pub struct Traffic {
+    totals: [u64; 7],
+    recent: HeapCircularBuffer<Note>,
+}
+
+impl Model for Traffic {
+    ghost use Rattle.traffic_trace.specs.Notes.{Trace};
+
+    ghost Value = { Trace };
+
+    ghost view = { λ t. record { totals = t.totals; notes = t.recent.items; kept = t.recent.capacity } };
+}
+
+impl Traffic {
+    /// No traffic yet. At most `last` notes are kept, and all memory for them is taken here.
+    pub fn new(alloc: Global, last: u32) -> Result<Traffic, AllocError>
+        ensures { IfOk result (λ traffic. traffic ≡ no_notes last) }
+    {
+        let recent = HeapCircularBuffer::with_capacity(alloc, last as usize)?;
+        Ok(Traffic {
+            totals: [0; 7],
+            recent,
+        })
+    }
+
+    /// Adds the newest note. The oldest kept one goes where there is no room, and a total stays at 2^64 - 1.
+    pub fn note(&mut self, n: Note)
+        ensures { self.new ≡ noted self.old n }
+    {
+        let place = n.kind.place();
+        self.totals[place] = self.totals[place].saturating_add(1);
+        self.recent.push_back(n);
+    }
+
+    /// How many notes of this kind there were, up to 2^64 - 1.
+    pub fn total(&self, k: Kind) -> u64
+        ensures { result ≡ total_of self.now k }
+    {
+        self.totals[k.place()]
+    }
+
+    /// A kept note by its place, the oldest of them first.
+    pub fn last(&self, place: usize) -> Option<Note>
+        ensures { result ≡ slice_get self.now.notes place }
+    {
+        self.recent.get(place).copied()
+    }
+}
+
+#[cfg(test)]
+mod tests {
+    use super::*;
+    use conda_base::Line;
+    use std::test::Fail;
+
+    #[test]
+    fn the_last_two_notes_are_kept(rt: HostRuntime) -> Result<(), Fail> {
+        let mut traffic = Traffic::new(rt.alloc(), 2)?;
+        for number in 0..3 {
+            traffic.note(fill_of(number));
+        }
+        assert_eq!(rt; traffic.total(Kind::Fill), 3);
+        assert_eq!(rt; traffic.total(Kind::Back), 0);
+        assert_eq!(rt; traffic.last(0), Some(fill_of(1)));
+        assert_eq!(rt; traffic.last(1), Some(fill_of(2)));
+        assert_eq!(rt; traffic.last(2), None);
+        Ok(())
+    }
+
+    #[test]
+    fn no_note_is_kept_where_none_may_be(rt: HostRuntime) -> Result<(), Fail> {
+        let mut traffic = Traffic::new(rt.alloc(), 0)?;
+        traffic.note(fill_of(1));
+        assert_eq!(rt; traffic.total(Kind::Fill), 1);
+        assert_eq!(rt; traffic.last(0), None);
+        Ok(())
+    }
+
+    fn fill_of(number: u32) -> Note {
+        Note {
+            kind: Kind::Fill,
+            who: 0,
+            line: Line(number),
+        }
+    }
+}
