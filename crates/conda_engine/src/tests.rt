@@ -48,25 +48,35 @@ fn named(alloc: Global, names: &[&str]) -> Result<Vec<String>, AllocError> {
     Ok(words)
 }
 
-// Runs an image on a schedule, over a host of which one call fails, if its number isn't 0.
+// A host with an image and a schedule, of which one call fails, if its number isn't 0.
+fn host_with(
+    alloc: Global,
+    image: Vec<u8>,
+    schedule: &[u8],
+    failing: u64,
+) -> Result<MemoryHost, AllocError> {
+    let mut inputs = Vec::new(alloc);
+    inputs.push((String::from_str(alloc, "i")?, image))?;
+    let schedule = Vec::from_slice(alloc, schedule)?;
+    inputs.push((String::from_str(alloc, "s")?, schedule))?;
+    let mut outputs = Vec::new(alloc);
+    outputs.push(String::from_str(alloc, "order")?)?;
+    outputs.push(String::from_str(alloc, "report")?)?;
+    outputs.push(String::from_str(alloc, "output")?)?;
+    let mut numbers = Vec::new(alloc);
+    numbers.push(failing)?;
+    MemoryHost::new(alloc, inputs, outputs, 1000, 1000, numbers)
+}
+
+// Runs an image on a schedule.
 fn run(
     alloc: Global,
     image: Vec<u8>,
     schedule: &[u8],
     failing: u64,
 ) -> Result<(Status, MemoryHost), AllocError> {
-    let words = named(
-        alloc,
-        &["run", "image", "schedule", "order", "report", "output"],
-    )?;
-    let mut inputs = Vec::new(alloc);
-    inputs.push((String::from_str(alloc, "image")?, image))?;
-    let schedule = Vec::from_slice(alloc, schedule)?;
-    inputs.push((String::from_str(alloc, "schedule")?, schedule))?;
-    let outputs = named(alloc, &["order", "report", "output"])?;
-    let mut numbers = Vec::new(alloc);
-    numbers.push(failing)?;
-    let mut host = MemoryHost::new(alloc, inputs, outputs, 1000, 1000, numbers)?;
+    let words = named(alloc, &["run", "i", "s", "order", "report", "output"])?;
+    let mut host = host_with(alloc, image, schedule, failing)?;
     let status = conda(alloc, &words, &mut host);
     Ok((status, host))
 }
