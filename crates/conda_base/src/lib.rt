@@ -4,9 +4,11 @@
 mod actor;
 mod bytes;
 mod line;
+mod marks;
 mod mesi;
 
 pub use actor::Actor;
 pub use bytes::{read_value, write_value};
 pub use line::{Line, line_of, offset_of};
+pub use marks::put_marked;
 pub use mesi::Mesi;

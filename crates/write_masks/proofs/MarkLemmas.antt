@@ -1,13 +1,14 @@
 -- Marks on the places of a line.
-use Rattle.std.proofs.Common.{◌≡◌, ℕ, Bool, true, false, List, [], ◌∷◌, length, get_or, zero, suc, ◌+◌, ◌-◌, ◌*◌, ◌/◌, ◌%◌, ◌^◌, ◌<◌, ◌≤◌, ◌⊎◌, ◌||◌, ⊎_elim, inl, inr, cond, eqb, sym, ◌∙◌, ap, refl, arith}
+use Rattle.std.proofs.Common.{◌≡◌, ℕ, ◌+◌, ◌-◌, ◌*◌, ◌%◌, ◌^◌, ◌<◌, ◌≤◌, ◌⊎◌, ◌||◌, ⊎_elim, inl, inr, sym, ◌∙◌, ap, arith}
 use Rattle.std.specs.Int.{bit_at}
 use Rattle.std.specs.Prelude.{bit_or, bit_and, min}
 use Rattle.std.proofs.lemmas.Nat.{one_shl, shl_whole, pow-add, pow_pos}
-use Rattle.std.proofs.lemmas.Nat.Bits.{bit_at_or, bit_at_and, bit_at-lt, bit_at_mask_inside, bit_at_mask_below, bit_at_mask_above, same_from_bits, bit_at-suc, bit_at_lowest}
+use Rattle.std.proofs.lemmas.Nat.Bits.{bit_at_or, bit_at_and, bit_at-lt, bit_at_mask_inside, bit_at_mask_below, bit_at_mask_above, same_from_bits}
 use Rattle.std.proofs.lemmas.Bool.{cases_lt, eqb-true, eq-eqb}
 use Rattle.std.proofs.lemmas.Bool.Decides.{nat_tests}
 use Rattle.std.proofs.Math.Nat.{mul-sub, mul_comm}
-use Rattle.write_masks.specs.Marks.{is_marked, is_within, Covers, mixed}
+use Rattle.conda_base.specs.Marks.{is_marked}
+use Rattle.write_masks.specs.Marks.{is_within, Covers}
 
 -- what the code computes for the bits from `offset` up to `offset + size`
 pub run_bits : (offset size : ℕ) → 0 < size → size < 128 → offset + size ≤ 128 → (1 * 2 ^ size % 2 ^ 128 - 1) * 2 ^ offset % 2 ^ 128 ≡ 2 ^ (offset + size) - 2 ^ offset
@@ -51,21 +52,3 @@ and_from_covers mask offset size run is covers =
     ⊎_elim (λ (inside : (offset ≤ k) × (k < offset + size) × (bit_at (2 ^ (offset + size) - 2 ^ offset) k ≡ 1)).
     let marked : bit_at mask k ≡ 1 = eqb-true _ _ (covers k inside.0 inside.1) in omega arith)
     (λ outside. omega arith) (bit_at_run offset size k))
-
--- a byte of a mix
-pub length-mixed : (mask : ℕ) (front back : List ℕ) → length (mixed mask front back) ≡ length front
-length-mixed mask [] back = refl
-length-mixed mask (f ∷ front) [] = refl
-length-mixed mask (f ∷ front) (b ∷ back) = ap suc (length-mixed (mask / 2) front back)
-
-cond_same : (b : Bool) (x : ℕ) → x ≡ cond b x x
-cond_same true x = refl
-cond_same false x = refl
-
-pub get_or-mixed : (mask : ℕ) (front back : List ℕ) (k : ℕ) → length back ≡ length front → get_or (mixed mask front back) k 0 ≡ cond (is_marked mask k) (get_or front k 0) (get_or back k 0)
-get_or-mixed mask [] [] k same = cond_same (is_marked mask k) 0
-get_or-mixed mask [] (b ∷ back) k same = absurd (omega arith)
-get_or-mixed mask (f ∷ front) [] k same = absurd (omega arith)
-get_or-mixed mask (f ∷ front) (b ∷ back) zero same = ap (λ x. cond (eqb x 1) f b) (sym (bit_at_lowest mask))
-get_or-mixed mask (f ∷ front) (b ∷ back) (suc k) same =
-    get_or-mixed (mask / 2) front back k (omega arith) ∙ ap (λ x. cond (eqb x 1) (get_or front k 0) (get_or back k 0)) (sym (bit_at-suc mask k))

@@ -16,9 +16,10 @@ ghost use Rattle.std.specs.Prelude.{
 };
 ghost use Rattle.conda_base.specs.Bytes.{stored, value_at};
 ghost use Rattle.conda_base.specs.Lines.{IsAccessSize};
-ghost use Rattle.write_masks.specs.Marks.{is_marked, is_within, Covers, mixed};
+ghost use Rattle.conda_base.specs.Marks.{is_marked, mixed};
+ghost use Rattle.write_masks.specs.Marks.{is_within, Covers};
 
-use conda_base::{read_value, write_value};
+use conda_base::{put_marked, read_value, write_value};
 
 // A line's room, which holds a line of each size.
 const ROOM: usize = 128;
@@ -76,11 +77,9 @@ impl Masked {
         ensures mask { self.new.mask ≡ self.old.mask }
         ensures filled { self.new.filled ≡ true }
     {
-        for place in 0..ROOM {
-            if (self.mask >> place) & 1 == 0 {
-                self.bytes[place] = from[place];
-            }
-        }
+        let stored = self.bytes;
+        self.bytes = *from;
+        put_marked(&mut self.bytes, self.mask, &stored);
         self.filled = true;
     }
 
