@@ -1,3 +1,4 @@
 mod CodeLemmas
+pub mod WordLemmas
 pub mod RegsFacts
 pub mod PlanFacts

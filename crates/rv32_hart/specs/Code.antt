@@ -18,6 +18,7 @@ pub record IsRangeIn (base bytes : ℕ) (range : ℕ × ℕ) : Type 0 where
 -- the bytes lie below 2 ^ 32, and each range in them
 pub record IsCode (code : CodeView) : Type 0 where
   pub room : code.base + length code.bytes ≤ 2 ^ 32
+  pub bytes : All (λ b. b < 2 ^ 8) code.bytes
   pub ranges : All (IsRangeIn code.base (length code.bytes)) code.ranges
 
 -- four bytes from pc on lie in this range

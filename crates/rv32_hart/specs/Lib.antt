@@ -1,4 +1,4 @@
 pub mod Regs
 pub mod Code
-pub mod Decode
+pub mod Arithmetic
 pub mod Act

@@ -1,14 +1,17 @@
 // One act of a hart: its plan, which changes nothing, and its effect on the registers.
 ghost use Rattle.std.specs.Prelude.{◌≡◌, ◌+◌, ◌<◌, ◌≤◌, ◌^◌, ◌&&◌, false, nat_le, length, IfOk};
+ghost use Rattle.conda_base.specs.Lines.{IsAccessSize};
+ghost use Rattle.rv32_decode.specs.Ranges.{FieldsFit};
 ghost use Rattle.rv32_hart.specs.Regs.{IsRegs};
 ghost use Rattle.rv32_hart.specs.Code.{in_memory};
-ghost use Rattle.rv32_hart.specs.Decode.{FieldsFit};
-ghost use Rattle.rv32_hart.specs.Act.{trapped, checked, jumps, plan_instr, plan_of, after, is_call, IsPlan};
+ghost use Rattle.rv32_hart.specs.Act.{trapped, checked, jumps, plan_instr, plan_of, after, branches, target_of_jalr, is_system, IsPlan};
 
+use crate::arithmetic::{
+    extend, imm_result, is_signed, is_taken, load_size, reg_result, store_size,
+};
 use crate::code::Code;
-use crate::decode::decode;
-use crate::instr::Instr;
 use crate::regs::{Regs, Trap};
+use rv32_decode::{AmoOp, BranchOp, Instr, decode};
 
 /// What an act does beside changing registers. Sizes are in bytes.
 #[derive(Clone, Copy, Debug, PartialEq, Eq)]
@@ -25,6 +28,13 @@ pub enum Access {
         size: u8,
         value: u32,
     },
+    /// A load of the word at `addr` and then a store of what the operation makes of it.
+    Amo {
+        addr: u32,
+        op: AmoOp,
+        rd: u8,
+        value: u32,
+    },
     Call,
 }
 
@@ -35,20 +45,13 @@ pub struct Planned {
     pub access: Access,
 }
 
-/// Why an act has no plan: it traps, or its word (an ECALL's too, for its number in x17) isn't
-/// built yet.
-#[derive(Clone, Copy, Debug, PartialEq, Eq)]
-pub enum Stop {
-    Trapped(Trap),
-    NotBuilt(u32),
-}
-
-/// The next act of these registers.
+/// The next act of these registers, or the first of its traps.
 ///
-/// The causes of a trap: 0, pc or a taken branch's target is no multiple of 4; 1, pc can't be
-/// fetched from; 4 and 5, a load that isn't aligned or isn't in memory; 6 and 7, such a store.
+/// The causes of a trap: 0, pc or the target of a jump or taken branch is no multiple of 4; 1, pc
+/// can't be fetched from; 2, the word is no instruction; 3, EBREAK; 4 and 5, a load that isn't
+/// aligned or isn't in memory; 6 and 7, such a store or atomic.
 #[tactic(auto, unfolding(crate::specs::Act::plan_of))]
-pub fn plan(code: &Code, r: &Regs) -> Result<Planned, Stop>
+pub fn plan(code: &Code, r: &Regs) -> Result<Planned, Trap>
     ensures value { result ≡ plan_of code.now r.now }
     ensures fits { IfOk result (IsPlan code.now) }
 {
@@ -60,33 +63,57 @@ pub fn plan(code: &Code, r: &Regs) -> Result<Planned, Stop>
     };
     match decode(word) {
         Some(instr) => plan_instr(code, r, instr),
-        None => Err(Stop::NotBuilt(word)),
+        None => refuse(2, word),
     }
 }
 
-/// Gives the registers the effect of an instruction, `loaded` being the value that it loads.
-#[tactic(auto, unfolding(crate::specs::Act::after))]
+/// Gives the registers the effect of an instruction, `loaded` being the zero-extended value that it
+/// loads.
 pub fn finish(r: &mut Regs, i: Instr, loaded: u32)
     requires fields { FieldsFit i }
-    requires no_call { is_call i ≡ false }
+    requires effect { is_system i ≡ false }
     ensures value { r.new ≡ after r.old i loaded }
     ensures regs { IsRegs r.old → IsRegs r.new }
+{
+    apply(r, i, loaded);
+}
+
+#[tactic(auto, unfolding(crate::specs::Act::after))]
+fn apply(r: &mut Regs, i: Instr, loaded: u32)
+    requires fields { FieldsFit i }
+    requires effect { is_system i ≡ false }
+    ensures { r.new ≡ after r.old i loaded }
 {
     let mut next = r.pc.wrapping_add(4);
     match i {
         Instr::Lui { rd, imm } => r.write(rd, imm),
-        Instr::Addi { rd, rs1, imm } => r.write(rd, r.get(rs1).wrapping_add(imm)),
-        Instr::Add { rd, rs1, rs2 } => r.write(rd, r.get(rs1).wrapping_add(r.get(rs2))),
-        Instr::Lw { rd, .. } => r.write(rd, loaded),
-        Instr::Beq { rs1, rs2, imm } if r.get(rs1) == r.get(rs2) => {
+        Instr::Auipc { rd, imm } => r.write(rd, r.pc.wrapping_add(imm)),
+        Instr::Jal { rd, imm } => {
+            r.write(rd, next);
             next = r.pc.wrapping_add(imm);
         }
-        Instr::Sw { .. } | Instr::Beq { .. } | Instr::Ecall => {}
+        Instr::Jalr { rd, rs1, imm } => {
+            let target = jalr_target(r, rs1, imm);
+            r.write(rd, next);
+            next = target;
+        }
+        Instr::Branch { op, rs1, rs2, imm } => {
+            if branches(r, op, rs1, rs2) {
+                next = r.pc.wrapping_add(imm);
+            }
+        }
+        Instr::Load { op, rd, .. } => r.write(rd, extend(op, loaded)),
+        Instr::Imm { op, rd, rs1, imm } => r.write(rd, imm_result(op, r.get(rs1), imm)),
+        Instr::Reg { op, rd, rs1, rs2 } => {
+            r.write(rd, reg_result(op, r.get(rs1), r.get(rs2)));
+        }
+        Instr::Amo { rd, .. } => r.write(rd, loaded),
+        Instr::Store { .. } | Instr::Fence | Instr::Ecall | Instr::Ebreak => {}
     }
     r.pc = next;
 }
 
-fn plan_instr(code: &Code, r: &Regs, instr: Instr) -> Result<Planned, Stop>
+fn plan_instr(code: &Code, r: &Regs, instr: Instr) -> Result<Planned, Trap>
     requires { FieldsFit instr }
     ensures { result ≡ plan_instr code.now r.now instr }
 {
@@ -95,58 +122,86 @@ fn plan_instr(code: &Code, r: &Regs, instr: Instr) -> Result<Planned, Stop>
         access: Access::Nothing,
     });
     match instr {
-        Instr::Lui { .. } | Instr::Addi { .. } | Instr::Add { .. } => plain,
-        Instr::Lw { rd, rs1, imm } => {
+        Instr::Branch { op, rs1, rs2, .. } if !branches(r, op, rs1, rs2) => plain,
+        Instr::Jal { imm, .. } | Instr::Branch { imm, .. } => {
+            jump(r.pc.wrapping_add(imm), instr)
+        }
+        Instr::Jalr { rs1, imm, .. } => jump(jalr_target(r, rs1, imm), instr),
+        Instr::Load { op, rd, rs1, imm } => {
             let addr = r.get(rs1).wrapping_add(imm);
+            let size = load_size(op);
+            let signed = is_signed(op);
             let access = Access::Load {
                 addr,
-                size: 4,
-                signed: false,
+                size,
+                signed,
                 rd,
             };
-            check(code, 4, addr, 4, Planned { instr, access })
+            check(code, 4, addr, size, Planned { instr, access })
         }
-        Instr::Sw { rs1, rs2, imm } => {
+        Instr::Store { op, rs1, rs2, imm } => {
             let addr = r.get(rs1).wrapping_add(imm);
+            let size = store_size(op);
             let value = r.get(rs2);
-            let access = Access::Store {
+            let access = Access::Store { addr, size, value };
+            check(code, 6, addr, size, Planned { instr, access })
+        }
+        Instr::Amo {
+            op,
+            rd,
+            rs1,
+            rs2,
+            ..
+        } => {
+            let addr = r.get(rs1);
+            let value = r.get(rs2);
+            let access = Access::Amo {
                 addr,
-                size: 4,
+                op,
+                rd,
                 value,
             };
             check(code, 6, addr, 4, Planned { instr, access })
         }
-        Instr::Beq { rs1, rs2, imm } => {
-            if r.get(rs1) == r.get(rs2) {
-                jump(r.pc.wrapping_add(imm), instr)
-            } else {
-                plain
-            }
-        }
-        Instr::Ecall => {
-            let number = r.get(17);
-            if number == 93 || number == 1003 {
-                Ok(Planned {
-                    instr,
-                    access: Access::Call,
-                })
-            } else {
-                Err(Stop::NotBuilt(0x73))
-            }
-        }
+        Instr::Ecall => Ok(Planned {
+            instr,
+            access: Access::Call,
+        }),
+        Instr::Ebreak => refuse(3, r.pc),
+        Instr::Lui { .. }
+        | Instr::Auipc { .. }
+        | Instr::Imm { .. }
+        | Instr::Reg { .. }
+        | Instr::Fence => plain,
     }
 }
 
-fn refuse(cause: u8, value: u32) -> Result<Planned, Stop>
+fn branches(r: &Regs, op: BranchOp, rs1: u8, rs2: u8) -> bool
+    requires left { rs1 < 32 }
+    requires right { rs2 < 32 }
+    ensures { result ≡ branches r.now op rs1 rs2 }
+{
+    is_taken(op, r.get(rs1), r.get(rs2))
+}
+
+fn jalr_target(r: &Regs, rs1: u8, imm: u32) -> u32
+    requires { rs1 < 32 }
+    ensures { result ≡ target_of_jalr r.now rs1 imm }
+{
+    let sum = r.get(rs1).wrapping_add(imm);
+    sum - sum % 2
+}
+
+fn refuse(cause: u8, value: u32) -> Result<Planned, Trap>
     ensures { result ≡ trapped cause value }
 {
-    Err(Stop::Trapped(Trap { cause, value }))
+    Err(Trap { cause, value })
 }
 
 // The trap after `cause` is that of an access outside memory.
-fn check(code: &Code, cause: u8, addr: u32, size: u8, planned: Planned) -> Result<Planned, Stop>
+fn check(code: &Code, cause: u8, addr: u32, size: u8, planned: Planned) -> Result<Planned, Trap>
     requires cause { cause < 8 }
-    requires size { 0 < size }
+    requires size { IsAccessSize size }
     ensures { result ≡ checked code.now cause addr size (Ok planned) }
 {
     if addr % u32::from(size) != 0 {
@@ -167,7 +222,7 @@ fn is_in_memory(code: &Code, addr: u32, size: u8) -> bool
     base <= u64::from(addr) && u64::from(addr) + u64::from(size) <= end
 }
 
-fn jump(target: u32, instr: Instr) -> Result<Planned, Stop>
+fn jump(target: u32, instr: Instr) -> Result<Planned, Trap>
     ensures { result ≡ jumps target instr }
 {
     if target % 4 == 0 {
@@ -177,57 +232,5 @@ fn jump(target: u32, instr: Instr) -> Result<Planned, Stop>
         })
     } else {
         refuse(0, target)
-    }
-}
-
-#[cfg(test)]
-mod tests {
-    use super::*;
-    use arrayvec::ArrayVec;
-    use std::alloc::{AllocError, Global};
-
-    // addi x10, x0, 65; addi x17, x0, 1003; ecall
-    const ONE_LETTER: [u8; 12] = [
-        0x13, 0x05, 0x10, 0x04, 0x93, 0x08, 0xb0, 0x3e, 0x73, 0x00, 0x00, 0x00,
-    ];
-
-    fn one_letter(alloc: Global) -> Result<Code, AllocError> {
-        let bytes = Vec::from_slice(alloc, &ONE_LETTER)?;
-        let mut ranges = ArrayVec::new();
-        ranges.push((0x1_0000, 12));
-        Ok(Code::new(0x1_0000, bytes, ranges))
-    }
-
-    #[test]
-    fn puts_one_letter(rt: HostRuntime) -> Result<(), AllocError> {
-        let code = one_letter(rt.alloc())?;
-        let mut r = Regs::new(0x1_0000);
-        for _ in 0..2 {
-            if let Ok(planned) = plan(&code, &r) {
-                if let Access::Nothing = planned.access {
-                    finish(&mut r, planned.instr, 0);
-                }
-            }
-        }
-        assert_eq!(rt; r.x[10], 65);
-        assert_eq!(rt; r.x[17], 1003);
-        let put = Planned {
-            instr: Instr::Ecall,
-            access: Access::Call,
-        };
-        assert_eq!(rt; plan(&code, &r), Ok(put));
-        Ok(())
-    }
-
-    #[test]
-    fn traps_where_nothing_is_fetched(rt: HostRuntime) -> Result<(), AllocError> {
-        let code = one_letter(rt.alloc())?;
-        assert_eq!(rt; plan(&code, &Regs::new(0x1_0002)), refuse(0, 0x1_0002));
-        assert_eq!(rt; plan(&code, &Regs::new(0x1_000c)), refuse(1, 0x1_000c));
-        assert_eq!(rt;
-            plan(&code, &Regs::new(0x1_0008)),
-            Err(Stop::NotBuilt(0x73))
-        );
-        Ok(())
     }
 }

@@ -58,7 +58,8 @@ impl Code {
 
     /// The little-endian word at `pc`, if it may be fetched.
     pub fn word(&self, pc: u32) -> Option<u32>
-        ensures { result ≡ word_at self.now pc }
+        ensures value { result ≡ word_at self.now pc }
+        ensures code { IsCode self.now }
     {
         if pc % 4 == 0 && self.is_fetched(pc) {
             Some(word_of(&self.bytes, (pc - self.base) as usize))

@@ -2,12 +2,13 @@
 #![tactic(auto)]
 
 mod act;
+mod arithmetic;
 mod code;
-mod decode;
-mod instr;
 mod regs;
+#[cfg(test)]
+mod tests;
 
-pub use act::{Access, Planned, Stop, finish, plan};
+pub use act::{Access, Planned, finish, plan};
+pub use arithmetic::amo_result;
 pub use code::Code;
-pub use instr::Instr;
 pub use regs::{Regs, Trap};
