@@ -1,3 +1,6 @@
-pub mod ReportFacts
+mod ListFacts
+pub mod EventFacts
 pub mod RunFacts
 pub mod StandFacts
+mod LineFacts
+pub mod ReportFacts

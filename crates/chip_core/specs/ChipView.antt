@@ -1,42 +1,41 @@
 -- What clauses see of a chip.
-use Rattle.std.specs.Prelude.{ℕ, ◌≡◌, ◌%◌, ◌==◌, Bool, List, length}
+use Rattle.std.specs.Prelude.{ℕ, ◌≡◌, ◌≤◌, Bool, List, length, nat_lt}
+use Rattle.conda_base.specs.Lines.{IsLineSize, IsWhole}
 use Rattle.conda_base.specs.declared.actor.Actor.{Actor}
 use Rattle.conda_base.specs.declared.actor.Actor.TheVariants as Actor_is
-use Rattle.rv32_hart.specs.Code.{CodeView}
-use Rattle.rv32_hart.specs.Regs.{IsRegs}
-use Rattle.offload_calls.specs.State.{Hart}
-use Rattle.offload_calls.specs.HartAct.{Effect}
+use Rattle.rv32_hart.specs.declared.regs.Regs.{Regs}
+use Rattle.rv32_hart.specs.Code.{CodeView, IsCode}
+use Rattle.offload_calls.specs.declared.status.CoreStatus.{CoreStatus}
+use Rattle.offload_calls.specs.declared.status.Hart.{Hart}
 
--- the image as loaded, the bytes of memory, and the one hart
+-- the image as loaded, the bytes of a line and of memory, the harts, and the status and registers of each core
 pub record ChipView : Type 0 where
   pub code : CodeView
+  pub line_bytes : ℕ
   pub memory : List ℕ
-  pub hart : Hart
+  pub harts : List Hart
+  pub statuses : List CoreStatus
+  pub registers : List Regs
 
--- the bytes of a line
-abbrev pub line_size : ℕ
-line_size = 64
+abbrev pub view_of : CodeView → ℕ → List ℕ → List Hart → List CoreStatus → List Regs → ChipView
+view_of code line_bytes memory harts statuses registers =
+    record { code = code; line_bytes = line_bytes; memory = memory; harts = harts; statuses = statuses; registers = registers }
 
 -- memory is whole lines
-pub record IsWholeLines (code : CodeView) : Type 0 where
-  pub whole_base : code.base % line_size ≡ 0
-  pub whole_bytes : length code.bytes % line_size ≡ 0
+pub record IsWholeLines (code : CodeView) (line_bytes : ℕ) : Type 0 where
+  pub size : IsLineSize line_bytes
+  pub base : IsWhole code.base line_bytes
+  pub bytes : IsWhole (length code.bytes) line_bytes
 
 -- what every chip keeps
 pub record IsChip (c : ChipView) : Type 0 where
+  pub lines : IsWholeLines c.code c.line_bytes
   pub long : length c.memory ≡ length c.code.bytes
-  pub whole_base : c.code.base % line_size ≡ 0
-  pub whole_bytes : length c.code.bytes % line_size ≡ 0
-  pub regs : IsRegs c.hart.regs
+  pub few_harts : length c.harts ≤ 8
+  pub few_cores : length c.statuses ≤ 4
+  pub both : length c.registers ≡ length c.statuses
 
--- there is one hart and one near-data core
-abbrev pub has : Actor → Bool
-has (Actor_is.Hart h) = h == 0
-has (Actor_is.Core j) = j == 0
-
--- an act of the hart had this effect, and put these bytes
-pub record Acts (old new : ChipView) (e : Effect) (puts : List ℕ) : Type 0 where
-  pub code : new.code ≡ old.code
-  pub memory : new.memory ≡ e.memory
-  pub hart : new.hart ≡ e.hart
-  pub bytes : puts ≡ e.puts
+-- the chip has this hart or near-data core
+abbrev pub has : ChipView → Actor → Bool
+has c (Actor_is.Hart h) = nat_lt h (length c.harts)
+has c (Actor_is.Core j) = nat_lt j (length c.statuses)

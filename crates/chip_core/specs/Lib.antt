@@ -1,3 +1,4 @@
+pub mod Acts
 pub mod ChipView
 pub mod Reports
 pub mod Runs

@@ -1,189 +1,114 @@
-// One hart over a flat memory.
-ghost use Rattle.std.specs.Prelude.{◌≡◌, ◌∷◌, [], ◌++◌, ◌%◌, ◌<◌, ◌≤◌, ◌-◌, ◌+◌, ◌*◌, ◌^◌, take, drop, replicate, List, Some, None, length, true, IsTrue, ◌↔◌, OnOk, OnErr, IfOk, IfErr};
+// A chip of harts over a flat memory.
+ghost use Rattle.std.specs.Prelude.{ℕ, ◌≡◌, ◌∷◌, [], ◌++◌, ◌<◌, ◌≤◌, ◌-◌, ◌+◌, ◌*◌, take, drop, replicate, List, Some, length, IsTrue, IfOk, slice_get};
 ghost use Rattle.conda_base.specs.declared.actor.Actor.{Actor};
-ghost use Rattle.conda_base.specs.Bytes.{value_at, stored};
-ghost use Rattle.rv32_hart.specs.Act.{plan_of, IsAccess, IsPlan};
-ghost use Rattle.offload_calls.specs.State.{Setup, State};
-ghost use Rattle.offload_calls.specs.HartAct.{act_effect, access_effect, hart_runs, unbuilt_word};
-ghost use Rattle.chip_core.specs.ChipView.{IsWholeLines, has, line_size, Acts};
 ghost use Rattle.conda_base.specs.Lines.{IsLineOf};
-ghost use Rattle.chip_core.specs.Runs.{next, happens, flat, unbuilt, unbuilt_of};
-ghost use Rattle.chip_core.specs.Stands.{Shows, Stands};
+ghost use Rattle.offload_calls.specs.State.{Setup, start_hart};
+ghost use Rattle.chip_core.specs.ChipView.{IsWholeLines, has};
+ghost use Rattle.chip_core.specs.Runs.{next, flat};
+ghost use Rattle.chip_core.specs.Stands.{Stands};
 
-use crate::{Event, NotBuilt};
+use crate::acting::hart_event;
+use crate::cores::Cores;
+use crate::event::Event;
 use arrayvec::ArrayVec;
-use conda_base::{Actor, Line, read_value, write_value};
-use offload_calls::{CoreStatus, HartStatus, Served, serve_hart};
+use conda_base::{Actor, Line, line_of};
+use offload_calls::{CoreStatus, Hart, HartStatus};
 use run_report::Shown;
-use rv32_hart::{Access, Code, Planned, Regs, Stop, finish, plan};
+use rv32_hart::{Code, Regs};
 use schedule_log::Entry;
 use std::alloc::{AllocError, Global};
 use std::marker::Model;
 
-/// The bytes of a line.
-const LINE_BYTES: u32 = 64;
-
-/// A chip with one hart, whose near-data cores are idle.
+/// A chip with up to 8 harts and 4 near-data cores.
 #[derive(Drop)]
 pub struct Chip {
     code: Code,
+    line_bytes: u32,
     memory: Vec<u8>,
-    regs: Regs,
-    status: HartStatus,
+    harts: Vec<Hart>,
+    cores: Cores,
 }
 
 impl Model for Chip {
-    ghost use Rattle.chip_core.specs.ChipView.{ChipView, IsChip};
+    ghost use Rattle.chip_core.specs.ChipView.{ChipView, IsChip, view_of};
 
     ghost Value = { ChipView };
 
-    ghost view = { λ c. record { code = c.code; memory = c.memory.items; hart = record { regs = c.regs; status = c.status } } };
+    ghost view = { λ c. view_of c.code c.line_bytes c.memory.items c.harts.items c.cores.statuses.items c.cores.registers.items };
 
-    ghost invariant = { λ c. IsChip (record { code = c.code; memory = c.memory.items; hart = record { regs = c.regs; status = c.status } }) };
+    ghost invariant = { λ c. IsChip (view_of c.code c.line_bytes c.memory.items c.harts.items c.cores.statuses.items c.cores.registers.items) };
 }
 
 impl Chip {
-    /// A chip at its start: memory holds the image, and the hart is at the entry.
-    pub fn new(alloc: Global, entry: u32, code: Code) -> Result<Chip, AllocError>
-        requires { IsWholeLines code }
-        ensures { IfOk result (λ chip. Stands (record { code = code; entry = entry; harts = 1; cores = 1 }) chip []) }
+    /// A chip at its start: memory holds the image, and each hart is at the entry.
+    pub fn new(
+        alloc: Global,
+        harts: u8,
+        cores: u8,
+        line_bytes: u32,
+        entry: u32,
+        code: Code,
+    ) -> Result<Chip, AllocError>
+        requires harts { harts ≤ 8 }
+        requires cores { cores ≤ 4 }
+        requires lines { IsWholeLines code line_bytes }
+        ensures { IfOk result (λ chip. Stands (record { code = code; entry = entry; harts = harts; cores = cores; line_bytes = line_bytes }) chip []) }
     {
         let memory = Vec::from_slice(alloc, code.bytes())?;
-        let mut regs = Regs::new(entry);
-        regs.x[11] = 1;
+        let harts = start_harts(alloc, harts, entry)?;
+        let cores = Cores::new(alloc, cores)?;
         Ok(Chip {
             code,
+            line_bytes,
             memory,
-            regs,
-            status: HartStatus::Run,
+            harts,
+            cores,
         })
     }
 
     /// Whether the chip has this hart or near-data core.
     pub fn has(&self, a: Actor) -> bool
-        ensures { result ≡ has a }
+        ensures { result ≡ has self.now a }
     {
         match a {
-            Actor::Hart(h) => h == 0,
-            Actor::Core(j) => j == 0,
+            Actor::Hart(h) => (h as usize) < self.harts.len(),
+            Actor::Core(j) => (j as usize) < self.cores.statuses.len(),
         }
     }
 
-    /// One event of a hart or near-data core, or the word that keeps its hart from its next act.
-    pub fn event(&mut self, a: Actor) -> Result<Event, NotBuilt>
-        requires { IsTrue (has a) }
-        ensures entry { IfOk result (λ e. (s : Setup) (events : List Actor) → Stands s self.old events → e.entry ≡ next s (flat s events) a) }
-        ensures stands { OnOk result ((s : Setup) (events : List Actor) → Stands s self.old events → Stands s self.new (events ++ a ∷ [])) }
-        ensures output { IfOk result (λ e. (s : Setup) (events : List Actor) → Stands s self.old events → (flat s (events ++ a ∷ [])).output ≡ (flat s events).output ++ e.out.items) }
-        ensures built { OnOk result ((s : Setup) (events : List Actor) → Stands s self.old events → unbuilt s (flat s events) a ≡ None) }
-        ensures not_built { IfErr result (λ n. (s : Setup) (events : List Actor) → Stands s self.old events → unbuilt s (flat s events) a ≡ Some n) }
-        ensures unchanged { OnErr result (self.new ≡ self.old) }
+    /// One event of a hart or near-data core.
+    pub fn event(&mut self, a: Actor) -> Event
+        requires { IsTrue (has self.old a) }
+        ensures entry { (s : Setup) (events : List Actor) → Stands s self.old events → result.entry ≡ next s (flat s events) a }
+        ensures stands { (s : Setup) (events : List Actor) → Stands s self.old events → Stands s self.new (events ++ a ∷ []) }
+        ensures output { (s : Setup) (events : List Actor) → Stands s self.old events → (flat s (events ++ a ∷ [])).output ≡ (flat s events).output ++ result.out.items }
     {
-        if let Actor::Hart(h) = a {
-            if self.is_running() {
-                let out = self.act()?;
-                return Ok(Event {
-                    entry: Entry::Step(h),
-                    out,
-                });
-            }
-        }
-        Ok(Event {
-            entry: Entry::Idle(a),
-            out: ArrayVec::new(),
-        })
-    }
-
-    fn is_running(&self) -> bool
-        ensures { result ≡ hart_runs self.now.hart.status }
-    {
-        self.status == HartStatus::Run
-    }
-
-    // One act of the hart, which runs: the bytes that it puts.
-    fn act(&mut self) -> Result<ArrayVec<u8, 64>, NotBuilt>
-        requires { hart_runs self.old.hart.status ≡ true }
-        ensures ok { IfOk result (λ out. Acts self.old self.new (act_effect self.old.code self.old.memory self.old.hart.regs) out.items) }
-        ensures built { OnOk result (unbuilt_word (plan_of self.old.code self.old.hart.regs) ≡ None) }
-        ensures not_built { IfErr result (λ n. unbuilt_of self.old.hart.regs.pc (unbuilt_word (plan_of self.old.code self.old.hart.regs)) ≡ Some n) }
-        ensures unchanged { OnErr result (self.new ≡ self.old) }
-    {
-        match plan(&self.code, &self.regs) {
-            Ok(planned) => Ok(self.execute(planned)),
-            Err(Stop::Trapped(trap)) => {
-                self.status = HartStatus::Trapped(trap);
-                Ok(ArrayVec::new())
-            }
-            Err(Stop::NotBuilt(word)) => Err(NotBuilt {
-                pc: self.regs.pc,
-                word,
-            }),
-        }
-    }
-
-    // Runs a planned instruction: the bytes that it puts.
-    fn execute(&mut self, planned: Planned) -> ArrayVec<u8, 64>
-        requires status { hart_runs self.old.hart.status ≡ true }
-        requires plan { IsPlan self.old.code planned }
-        ensures { Acts self.old self.new (access_effect self.old.code self.old.memory self.old.hart.regs planned.instr planned.access) result.items }
-    {
-        let mut out = ArrayVec::new();
-        match planned.access {
-            Access::Nothing => finish(&mut self.regs, planned.instr, 0),
-            Access::Load { addr, size, .. } => {
-                let loaded = self.load(addr, size);
-                finish(&mut self.regs, planned.instr, loaded);
-            }
-            Access::Store { addr, size, value } => {
-                self.store(addr, size, value);
-                finish(&mut self.regs, planned.instr, 0);
-            }
-            Access::Call => match serve_hart(&mut self.regs) {
-                Served::Exit(value) => self.status = HartStatus::Exit(value),
-                Served::Put(byte) => out.push(byte),
-                Served::Trapped(trap) => self.status = HartStatus::Trapped(trap),
+        match a {
+            Actor::Hart(h) => hart_event(
+                h,
+                &mut self.harts[h as usize],
+                &self.code,
+                &mut self.memory,
+                &mut self.cores,
+            ),
+            Actor::Core(_) => Event {
+                entry: Entry::Idle(a),
+                out: ArrayVec::new(),
             },
         }
-        out
     }
 
     // Where a line of memory begins in memory's bytes.
     fn place_of(&self, l: Line) -> usize
-        requires { IsLineOf self.now.code.base (length self.now.memory) line_size l.0 }
-        ensures place { result ≡ l.0 * line_size - self.now.code.base }
-        ensures from { self.now.code.base ≤ l.0 * line_size }
-        ensures within { result + line_size ≤ length self.now.memory }
+        requires { IsLineOf self.now.code.base (length self.now.memory) self.now.line_bytes l.0 }
+        ensures place { result ≡ l.0 * self.now.line_bytes - self.now.code.base }
+        ensures from { self.now.code.base ≤ l.0 * self.now.line_bytes }
+        ensures within { result + self.now.line_bytes ≤ length self.now.memory }
         ensures long { length self.now.code.bytes ≡ length self.now.memory }
     {
         let base = self.code.base();
-        (l.0 * LINE_BYTES - base) as usize
+        (l.0 * self.line_bytes - base) as usize
     }
-
-    fn load(&self, addr: u32, size: u8) -> u32
-        requires { IsAccess self.now.code addr size }
-        ensures { result ≡ value_at self.now.memory (addr - self.now.code.base) size }
-    {
-        let place = (addr - self.code.base()) as usize;
-        read_value(&self.memory, place, size)
-    }
-
-    fn store(&mut self, addr: u32, size: u8, value: u32)
-        requires { IsAccess self.old.code addr size }
-        ensures { self.new ≡ record self.old { memory = stored self.old.memory (addr - self.old.code.base) size value } }
-    {
-        let place = (addr - self.code.base()) as usize;
-        write_value(&mut self.memory, place, size, value);
-    }
-}
-
-// Hands out the bytes of a line that begins at a place, and zeros after them.
-fn hand_out(bytes: &[u8], place: usize, size: usize, out: &mut [u8; 128])
-    requires size { size ≤ 128 }
-    requires within { place + size ≤ length bytes.now }
-    ensures { out.new ≡ take size (drop place bytes.now) ++ replicate (128 - size) 0 }
-{
-    out[..size].copy_from_slice(&bytes[place..place + size]);
-    out[size..].fill(0);
 }
 
 impl Shown for Chip {
@@ -192,38 +117,68 @@ impl Shown for Chip {
     ghost shown = { view_of_chip };
 
     fn harts(&self) -> u8 {
-        1
+        self.harts.len() as u8
     }
 
     fn cores(&self) -> u8 {
-        1
+        self.cores.statuses.len() as u8
     }
 
-    fn hart(&self, _i: u8) -> (Regs, HartStatus) {
-        (self.regs, self.status)
+    fn hart(&self, i: u8) -> (Regs, HartStatus) {
+        let hart = &self.harts[i as usize];
+        (hart.regs, hart.status)
     }
 
-    fn core(&self, _j: u8) -> (Regs, CoreStatus) {
-        (Regs::new(0), CoreStatus::Idle)
+    fn core(&self, j: u8) -> (Regs, CoreStatus) {
+        (
+            self.cores.registers[j as usize],
+            self.cores.statuses[j as usize],
+        )
     }
 
     fn lines(&self) -> (Line, u32) {
-        let base = self.code.base();
-        let many = self.memory.len() / LINE_BYTES as usize;
-        (Line(base / LINE_BYTES), many as u32)
+        let many = self.memory.len() / self.line_bytes as usize;
+        (line_of(self.code.base(), self.line_bytes), many as u32)
     }
 
     fn line_bytes(&self) -> u32 {
-        LINE_BYTES
+        self.line_bytes
     }
 
     fn line(&self, l: Line, out: &mut [u8; 128]) {
-        let place = self.place_of(l);
-        hand_out(&self.memory, place, LINE_BYTES as usize, out);
+        hand_out(&self.memory, self.place_of(l), self.line_bytes, out);
     }
 
     fn loaded(&self, l: Line, out: &mut [u8; 128]) {
-        let place = self.place_of(l);
-        hand_out(self.code.bytes(), place, LINE_BYTES as usize, out);
+        hand_out(self.code.bytes(), self.place_of(l), self.line_bytes, out);
     }
+}
+
+// Hands out the bytes of a line that begins at a place, and zeros after them.
+fn hand_out(bytes: &[u8], place: usize, line_bytes: u32, out: &mut [u8; 128])
+    requires size { line_bytes ≤ 128 }
+    requires within { place + line_bytes ≤ length bytes.now }
+    ensures { out.new ≡ take line_bytes (drop place bytes.now) ++ replicate (128 - line_bytes) 0 }
+{
+    let size = line_bytes as usize;
+    out[..size].copy_from_slice(&bytes[place..place + size]);
+    out[size..].fill(0);
+}
+
+// The harts at the entry, each with its number in x10 and the number of harts in x11.
+fn start_harts(alloc: Global, many: u8, entry: u32) -> Result<Vec<Hart>, AllocError>
+    ensures many { IfOk result (λ harts. length harts.items ≡ many) }
+    ensures start { IfOk result (λ harts. (h : ℕ) → h < many → slice_get harts.items h ≡ Some (start_hart entry many h)) }
+{
+    let mut harts = Vec::with_capacity(alloc, many as usize)?;
+    for number in 0..many {
+        let mut regs = Regs::new(entry);
+        regs.x[10] = u32::from(number);
+        regs.x[11] = u32::from(many);
+        harts.push(Hart {
+            regs,
+            status: HartStatus::Run,
+        })?;
+    }
+    Ok(harts)
 }

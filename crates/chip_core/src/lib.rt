@@ -1,8 +1,10 @@
-//! The whole chip: one hart over a flat memory, one event at a time.
+//! The whole chip: harts over a flat memory, beside near-data cores that don't run yet; one event at a time.
 #![tactic(auto)]
 
+mod acting;
 mod chip;
+mod cores;
 mod event;
 
 pub use chip::Chip;
-pub use event::{Event, NotBuilt};
+pub use event::Event;

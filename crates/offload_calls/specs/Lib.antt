@@ -1,3 +1,6 @@
 pub mod Calls
-pub mod HartAct
+pub mod Stores
 pub mod State
+pub mod Effects
+pub mod HartAct
+pub mod CoreActs

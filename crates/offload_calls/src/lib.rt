@@ -1,8 +1,10 @@
-//! Harts and near-data cores: how they stand, what their calls do, and one act of a hart on flat memory.
+//! Harts and near-data cores: how they stand, what their calls do, and their acts on flat memory.
 #![tactic(auto)]
 
 mod serve;
 mod status;
+#[cfg(test)]
+mod tests;
 
-pub use serve::{Served, serve_hart};
-pub use status::{CoreStatus, HartStatus};
+pub use serve::{Kernel, Served, is_put, serve_core, serve_hart, waits};
+pub use status::{Core, CoreStatus, Hart, HartStatus};

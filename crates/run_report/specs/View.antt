@@ -2,7 +2,8 @@
 use Rattle.std.specs.Prelude.{ℕ, ◌≡◌, ◌+◌, ◌-◌, ◌^◌, ◌≤◌, List, ◌++◌, length, replicate}
 use Rattle.conda_base.specs.Lines.{IsLineSize, IsWhole}
 use Rattle.conda_base.specs.Bytes.{bytes_of_line}
-use Rattle.offload_calls.specs.State.{Hart, Core}
+use Rattle.offload_calls.specs.declared.status.Hart.{Hart}
+use Rattle.offload_calls.specs.declared.status.Core.{Core}
 
 -- Harts and cores by their numbers; the bytes of memory from the base address on, now and as they were loaded.
 pub record View : Type 0 where
