@@ -234,3 +234,7 @@ pub never_memory : (file : List ℕ) (base size : ℕ) (f : ImageFault) → refu
 never_memory file base size f is answer =
     let same : f ≡ OutOfMemory = cc in
     absurd (refusal_is_named file base size (is ∙ ap Some same))
+
+pub kept_one : (rule : Option ImageFault) (rules : List (Option ImageFault)) → rule ≡ None → first_some (rule ∷ rules) ≡ first_some rules
+kept_one None rules h = refl
+kept_one (Some f) rules h = cc

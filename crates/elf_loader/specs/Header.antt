@@ -5,11 +5,11 @@ use Rattle.conda_base.specs.Bytes.{value_at}
 use Rattle.elf_loader.specs.declared.header.Header.{Header}
 
 -- a little-endian field of 16 or of 32 bits at an offset
-abbrev pub half_at : List ℕ → ℕ → ℕ
-half_at file offset = value_at file offset 2
+abbrev pub half_field : List ℕ → ℕ → ℕ
+half_field file offset = value_at file offset 2
 
-abbrev pub word_at : List ℕ → ℕ → ℕ
-word_at file offset = value_at file offset 4
+abbrev pub word_field : List ℕ → ℕ → ℕ
+word_field file offset = value_at file offset 4
 
 -- the header of a file, by the fields' offsets
 abbrev pub header_of : List ℕ → Header
@@ -18,15 +18,15 @@ header_of file = record {
   ei_class = slice_index file 4;
   ei_data = slice_index file 5;
   ei_version = slice_index file 6;
-  e_type = half_at file 16;
-  e_machine = half_at file 18;
-  e_version = word_at file 20;
-  e_entry = word_at file 24;
-  e_phoff = word_at file 28;
-  e_flags = word_at file 36;
-  e_ehsize = half_at file 40;
-  e_phentsize = half_at file 42;
-  e_phnum = half_at file 44;
+  e_type = half_field file 16;
+  e_machine = half_field file 18;
+  e_version = word_field file 20;
+  e_entry = word_field file 24;
+  e_phoff = word_field file 28;
+  e_flags = word_field file 36;
+  e_ehsize = half_field file 40;
+  e_phentsize = half_field file 42;
+  e_phnum = half_field file 44;
 }
 
 -- some bit of the mask is set in a word of flags

@@ -1,8 +1,7 @@
 -- Plain images: ELF files of one segment that is loaded, readable, writable and executable.
-use Rattle.std.specs.Prelude.{ℕ, ◌+◌, ◌-◌, ◌*◌, List, [], ◌∷◌, ◌++◌, length, replicate}
+use Rattle.std.specs.Prelude.{ℕ, ◌≡◌, ◌+◌, ◌-◌, ◌*◌, ◌%◌, ◌<◌, ◌≤◌, List, [], ◌∷◌, ◌++◌, length, replicate}
 use Rattle.std.specs.List.{flat_map}
 use Rattle.std.specs.Int.{to_le_bytes, w16, w32}
-use Rattle.rv32_hart.specs.Code.{CodeView}
 
 -- a field of 16 or of 32 bits
 abbrev pub half : ℕ → List ℕ
@@ -35,3 +34,10 @@ plain at words = elf_header at ++ program_header at (4 * length words) ++ words_
 unfoldable pub memory_with : ℕ → ℕ → ℕ → List ℕ → List ℕ
 memory_with base size at body =
     replicate (at - base) 0 ++ body ++ replicate (base + size - (at + length body)) 0
+
+-- so many words at an address lie whole and aligned in the `size` bytes from `base` on, and there is one
+pub record IsPlainIn (at words base size : ℕ) : Type 0 where
+  pub some : 0 < words
+  pub aligned : at % 4 ≡ 0
+  pub from : base ≤ at
+  pub to : at + 4 * words ≤ base + size

@@ -1,18 +1,18 @@
 -- The program headers of an ELF file (System V gABI, "Program Header"), and what is asked of them.
 use Rattle.std.specs.Prelude.{ℕ, ◌≡◌, ◌+◌, ◌*◌, ◌%◌, ◌<◌, Bool, false, not, ◌==◌, ◌||◌, ◌&&◌, nat_lt, nat_le, min, max, List, length, take, map, All}
 use Rattle.std.specs.List.{range_with_len, list_any, slice_index_or, enumerate_from}
-use Rattle.elf_loader.specs.Header.{word_at, header_of, has_flag}
+use Rattle.elf_loader.specs.Header.{word_field, header_of, has_flag}
 use Rattle.elf_loader.specs.declared.segment.Segment.{Segment}
 
 -- the program header at a place of a file, by the fields' offsets
 abbrev pub segment_at : List ℕ → ℕ → Segment
 segment_at file place = record {
-  p_type = word_at file place;
-  p_offset = word_at file (place + 4);
-  p_vaddr = word_at file (place + 8);
-  p_filesz = word_at file (place + 16);
-  p_memsz = word_at file (place + 20);
-  p_flags = word_at file (place + 24);
+  p_type = word_field file place;
+  p_offset = word_field file (place + 4);
+  p_vaddr = word_field file (place + 8);
+  p_filesz = word_field file (place + 16);
+  p_memsz = word_field file (place + 20);
+  p_flags = word_field file (place + 24);
 }
 
 -- the program headers of a file, which has e_phnum of them from e_phoff on

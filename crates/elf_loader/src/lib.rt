@@ -8,7 +8,9 @@ mod header;
 mod image;
 mod judging;
 mod memory;
+mod plain;
 mod segment;
 
 pub use fault::ImageFault;
 pub use image::{Image, load};
+pub use plain::plain_image_is_loaded;
