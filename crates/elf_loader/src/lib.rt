@@ -10,6 +10,8 @@ mod judging;
 mod memory;
 mod plain;
 mod segment;
+#[cfg(test)]
+mod tests;
 
 pub use fault::ImageFault;
 pub use image::{Image, load};
