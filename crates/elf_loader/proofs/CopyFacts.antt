@@ -1,13 +1,12 @@
 -- Bytes that are copied into memory.
-use Rattle.std.proofs.Common.{◌≡◌, ◌≢◌, ℕ, ◌+◌, ◌-◌, ◌<◌, ◌≤◌, Bool, true, false, cond, leb, ltb, ◌&&◌, List, ◌++◌, length, get_or, take, drop, refl, sym, ap, ◌∙◌, arith}
+use Rattle.std.proofs.Common.{◌≡◌, ◌≢◌, ℕ, ◌+◌, ◌-◌, ◌<◌, ◌≤◌, Bool, true, false, cond, leb, List, ◌++◌, length, get_or, take, drop, refl, ap, ◌∙◌, arith}
 use Rattle.std.specs.Prelude.{slice_index, slice_range}
 use Rattle.std.proofs.lemmas.Bool.Decides.{nat_tests}
-use Rattle.std.proofs.lemmas.Grind.{common_steps}
 use Rattle.std.proofs.lemmas.List.{get_or_append_left, get_or-append_right, get_or-take, get_or-drop, length-take-le, length-take, length-drop}
 use borrow.Rule.Slice.PartMut.{put_mid}
 use Rattle.elf_loader.specs.declared.segment.Segment.{Segment}
 use Rattle.elf_loader.specs.Loaded.{is_copied}
-use Rattle.elf_loader.specs.Segments.{is_live, is_bad, is_outside, memory_end}
+use Rattle.elf_loader.specs.Segments.{is_live, is_bad, is_outside}
 
 -- what a write to a part of a list leaves at a place in that part, and elsewhere
 written_in : (a k j : ℕ) (xs ys : List ℕ) → a + k ≤ length xs → length ys ≡ k → a ≤ j → j < a + k

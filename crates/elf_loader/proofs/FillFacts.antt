@@ -1,9 +1,9 @@
 -- Memory that was filled by some segments.
-use Rattle.std.proofs.Common.{◌≡◌, ℕ, ◌+◌, ◌-◌, ◌<◌, ◌≤◌, Bool, true, false, cond, leb, ltb, ◌&&◌, ◌||◌, List, [], ◌∷◌, ◌++◌, length, get_or, take, map, replicate, refl, sym, ap, ◌∙◌, arith, subst}
+use Rattle.std.proofs.Common.{◌≡◌, ℕ, ◌+◌, ◌-◌, ◌<◌, ◌≤◌, Bool, true, false, cond, ltb, ◌&&◌, ◌||◌, List, [], ◌∷◌, ◌++◌, length, get_or, take, map, replicate, refl, sym, ap, ◌∙◌, arith}
 use Rattle.std.specs.Prelude.{slice_index}
 use Rattle.std.specs.List.{list_any, range_with_len}
 use Rattle.std.proofs.lemmas.Bool.Decides.{nat_tests}
-use Rattle.std.proofs.lemmas.List.{take_more, take_all, same_lists, get_or-replicate, length-replicate, ext_get_or}
+use Rattle.std.proofs.lemmas.List.{take_more, take_all, get_or-replicate, length-replicate, ext_get_or}
 use Rattle.std.proofs.lemmas.List.FromFn.{length-map-range_with_len, get_or-map-range_with_len}
 use Rattle.elf_loader.specs.declared.segment.Segment.{Segment}
 use Rattle.elf_loader.specs.Loaded.{holds, byte_of, byte_at, is_copied}
@@ -29,7 +29,7 @@ byte_at-push file (t ∷ segments) s addr = go (holds addr t) (byte_at-push file
     go false rest = rest
 
 -- an address in no segment has the byte 0
-byte_at_none : (file : List ℕ) (segments : List Segment) (addr : ℕ) → list_any (holds addr) segments ≡ false → byte_at file segments addr ≡ 0
+pub byte_at_none : (file : List ℕ) (segments : List Segment) (addr : ℕ) → list_any (holds addr) segments ≡ false → byte_at file segments addr ≡ 0
 byte_at_none file [] addr h = refl
 byte_at_none file (t ∷ segments) addr h = go (holds addr t) h (byte_at_none file segments addr)
   where
@@ -60,7 +60,7 @@ apart addr s (t ∷ segments) none some here =
     go false is true meets none some rest = cc
     go false is false meets none some rest = rest none some here
 
-no_meeting : (addr : ℕ) (s : Segment) (segments : List Segment) → overlaps segments s ≡ false
+pub no_meeting : (addr : ℕ) (s : Segment) (segments : List Segment) → overlaps segments s ≡ false
     → holds addr s ≡ true → list_any (holds addr) segments ≡ true → ⊥
 no_meeting addr s segments distinct here some =
     apart addr s segments (lone (is_live s) _ (alive (is_live s) _ here) distinct) some here

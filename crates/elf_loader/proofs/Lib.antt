@@ -1,5 +1,6 @@
 mod CopyFacts
 mod FillFacts
+mod LawFacts
 pub mod LoadedFacts
 pub mod PlainFacts
 mod RangeFacts

@@ -1,5 +1,5 @@
 -- What is loaded of a plain image.
-use Rattle.std.proofs.Common.{◌≡◌, ℕ, zero, suc, ◌+◌, ◌-◌, ◌*◌, ◌%◌, ◌^◌, ◌<◌, ◌≤◌, Bool, true, false, cond, ◌&&◌, ◌||◌, not, eqb, leb, ltb, List, [], ◌∷◌, ◌++◌, length, get_or, take, drop, map, replicate, Some, None, Option, refl, sym, ap, ◌∙◌, subst, arith, length-append, append_assoc}
+use Rattle.std.proofs.Common.{◌≡◌, ℕ, zero, suc, ◌+◌, ◌-◌, ◌*◌, ◌%◌, ◌^◌, ◌<◌, ◌≤◌, Bool, true, false, cond, ◌&&◌, ◌||◌, not, eqb, leb, ltb, List, [], ◌∷◌, ◌++◌, length, get_or, take, drop, replicate, Some, None, refl, sym, ap, ◌∙◌, arith, length-append, append_assoc}
 use Rattle.std.specs.Prelude.{slice_index}
 use Rattle.std.specs.List.{position}
 use Rattle.std.specs.Option.{option_map}
@@ -11,15 +11,15 @@ use Rattle.rv32_hart.specs.Code.{word_at, is_fetched}
 use Rattle.elf_loader.specs.declared.header.Header.{Header}
 use Rattle.elf_loader.specs.declared.segment.Segment.{Segment}
 use Rattle.elf_loader.specs.declared.fault.ImageFault.{ImageFault}
-use Rattle.elf_loader.specs.declared.fault.ImageFault.TheVariants.{TableOutside, Dynamic, BadSegment, SegmentOutside, Overlap, NoSegment, BadEntry}
+use Rattle.elf_loader.specs.declared.fault.ImageFault.TheVariants.{TableOutside, BadSegment, SegmentOutside, Overlap, NoSegment, BadEntry}
 use Rattle.elf_loader.specs.Header.{header_of, is_table_outside}
-use Rattle.elf_loader.specs.Segments.{segments_of, is_live, is_dynamic, is_bad, is_outside, is_fetchable, overlaps, overlaps_earlier, numbered, holds_word, has_no_live, is_bad_entry}
+use Rattle.elf_loader.specs.Segments.{segments_of, is_live, is_bad, is_outside, is_fetchable, overlaps, overlaps_earlier, numbered, holds_word, has_no_live, is_bad_entry}
 use Rattle.elf_loader.specs.Refusal.{first_some, when, refusal}
 use Rattle.elf_loader.specs.Loaded.{holds, byte_of, byte_at, loaded, fetch_ranges, code_of}
-use Rattle.elf_loader.specs.Plain.{word, words_bytes, elf_header, program_header, plain, memory_with, IsPlainIn}
+use Rattle.elf_loader.specs.Plain.{word, words_bytes, plain, memory_with, IsPlainIn}
 use Rattle.elf_loader.proofs.SegmentFacts.{position_is_none}
 use Rattle.elf_loader.proofs.LoadedFacts.{length-loaded, loaded_at}
-use Rattle.elf_loader.proofs.RefusalFacts.{kept_one, long_enough, past_segments, identity_rules, kind_rules, table_rules, segment_rules, entry_rules}
+use Rattle.elf_loader.proofs.RefusalFacts.{kept_one, long_enough, past_segments, segment_rules}
 
 -- a word gives its number back
 word_value : (n : ℕ) → n < 2 ^ 32 → number_of (word n) ≡ n

@@ -10,11 +10,11 @@ use Rattle.elf_loader.specs.Loaded.{fetch_ranges, range_of}
 use Rattle.elf_loader.specs.Segments.{is_fetchable, is_bad, is_outside}
 
 -- the ranges of a segment and of those behind it, and of those before it and of a segment
-abbrev with_range : Bool → Segment → List (ℕ × ℕ) → List (ℕ × ℕ)
+abbrev pub with_range : Bool → Segment → List (ℕ × ℕ) → List (ℕ × ℕ)
 with_range true s ranges = range_of s ∷ ranges
 with_range false s ranges = ranges
 
-fetch_ranges-cons : (s : Segment) (segments : List Segment) → fetch_ranges (s ∷ segments) ≡ with_range (is_fetchable s) s (fetch_ranges segments)
+pub fetch_ranges-cons : (s : Segment) (segments : List Segment) → fetch_ranges (s ∷ segments) ≡ with_range (is_fetchable s) s (fetch_ranges segments)
 fetch_ranges-cons s segments = go (is_fetchable s)
   where
     go : (b : Bool) → map range_of (cond b (s ∷ filter is_fetchable segments) (filter is_fetchable segments)) ≡ with_range b s (fetch_ranges segments)

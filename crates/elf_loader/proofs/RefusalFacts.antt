@@ -1,5 +1,5 @@
 -- The first rule that is broken.
-use Rattle.std.proofs.Common.{◌≡◌, ℕ, Result, Err, ◌<◌, ◌≤◌, subst, arith, Bool, true, false, cond, List, [], ◌∷◌, ◌++◌, length, Some, None, Option, refl, sym, ap, ◌∙◌}
+use Rattle.std.proofs.Common.{◌≡◌, ℕ, Result, Err, ◌<◌, ◌≤◌, subst, arith, Bool, true, false, List, [], ◌∷◌, ◌++◌, length, Some, None, Option, refl, sym, ap, ◌∙◌}
 use Rattle.std.specs.Prelude.{nat_lt}
 use Rattle.std.proofs.lemmas.Bool.Decides.{nat_tests}
 use Rattle.std.specs.List.{position}
@@ -238,3 +238,44 @@ never_memory file base size f is answer =
 pub kept_one : (rule : Option ImageFault) (rules : List (Option ImageFault)) → rule ≡ None → first_some (rule ∷ rules) ≡ first_some rules
 kept_one None rules h = refl
 kept_one (Some f) rules h = cc
+
+-- where no rule is broken, none is in each part
+front_kept : (front back : List (Option ImageFault)) → first_some (front ++ back) ≡ None → first_some front ≡ None
+front_kept [] back h = refl
+front_kept (None ∷ front) back h = front_kept front back h
+front_kept (Some f ∷ front) back h = h
+
+back_kept : (front back : List (Option ImageFault)) → first_some (front ++ back) ≡ None → first_some back ≡ None
+back_kept [] back h = h
+back_kept (None ∷ front) back h = back_kept front back h
+back_kept (Some f ∷ front) back h = cc
+
+kept_after_table : (file : List ℕ) (base size : ℕ) → refusal file base size ≡ None
+    → first_some (after_table (length file) (header_of file) (segments_of file) base size) ≡ None
+kept_after_table file base size kept =
+    let n = length file in
+    let h = header_of file in
+    let s = segments_of file in
+    let one = back_kept (short_rules n) (after_short n h s base size) (rules_are file h s base size refl refl ∙ kept) in
+    let two = back_kept (identity_rules h) (after_identity n h s base size) one in
+    let three = back_kept (kind_rules h) (after_kind n h s base size) two in
+    back_kept (table_rules n h) (after_table n h s base size) three
+
+pub loadable_where_kept : (file : List ℕ) (base size : ℕ) → refusal file base size ≡ None → IsLoadable (length file) base size (segments_of file)
+loadable_where_kept file base size kept =
+    let s = segments_of file in
+    loadable_by_rules (length file) base size s s refl
+    (front_kept (segment_rules (length file) base size s) (entry_rules (header_of file).e_entry s) (kept_after_table file base size kept))
+
+kept_test : (b : Bool) (fault : ImageFault) → when b fault ≡ None → b ≡ false
+kept_test true fault h = cc
+kept_test false fault h = refl
+
+pub entry_where_kept : (file : List ℕ) (base size : ℕ) → refusal file base size ≡ None → is_bad_entry (header_of file).e_entry (segments_of file) ≡ false
+entry_where_kept file base size kept =
+    let s = segments_of file in
+    let entry = (header_of file).e_entry in
+    let none = when (has_no_live s) NoSegment in
+    let bad = when (is_bad_entry entry s) (BadEntry entry) in
+    let parts = back_kept (segment_rules (length file) base size s) (entry_rules entry s) (kept_after_table file base size kept) in
+    kept_test _ (BadEntry entry) (first_kept bad [] (rest_kept none (bad ∷ []) parts))

@@ -1,5 +1,5 @@
 -- The first segment that breaks a rule, and what it means that none does.
-use Rattle.std.proofs.Common.{◌≡◌, ℕ, ◌+◌, ◌*◌, ◌∷◌, [], ◌++◌, map, ◌<◌, ◌≤◌, Bool, true, false, cond, ltb, List, length, get_or, take, Some, None, Option, refl, sym, ap, ◌∙◌, arith, zero-add}
+use Rattle.std.proofs.Common.{◌≡◌, ℕ, ◌+◌, ◌*◌, ◌∷◌, [], ◌++◌, map, ◌<◌, ◌≤◌, Bool, true, false, cond, ltb, List, length, get_or, take, Some, None, refl, sym, ap, ◌∙◌, arith, zero-add}
 use Rattle.std.specs.List.{position, position_or_len, range_with_len}
 use Rattle.std.specs.Prelude.{All}
 use Rattle.std.proofs.lemmas.Bool.Decides.{nat_tests}

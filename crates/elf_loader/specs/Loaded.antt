@@ -1,6 +1,6 @@
 -- What is loaded of a file: the bytes of memory, and the addresses that instructions may be fetched from.
-use Rattle.std.specs.Prelude.{ℕ, ◌+◌, ◌-◌, Bool, ◌&&◌, nat_le, nat_lt, List, [], ◌∷◌, map, slice_index, if◌then◌else◌}
-use Rattle.std.specs.List.{range_with_len, filter}
+use Rattle.std.specs.Prelude.{ℕ, ◌≡◌, ◌<◌, ◌≤◌, not, IsTrue, ◌+◌, ◌-◌, Bool, ◌&&◌, nat_le, nat_lt, List, [], ◌∷◌, map, slice_index, if◌then◌else◌}
+use Rattle.std.specs.List.{range_with_len, filter, list_any}
 use Rattle.rv32_hart.specs.Code.{CodeView}
 use Rattle.elf_loader.specs.Segments.{segments_of, memory_end, is_live, is_fetchable}
 use Rattle.elf_loader.specs.declared.segment.Segment.{Segment}
@@ -39,3 +39,12 @@ code_of file base size =
 -- the file has the byte at an address of a live segment
 abbrev pub is_copied : ℕ → Segment → Bool
 is_copied addr s = is_live s && (nat_le s.p_vaddr addr && nat_lt addr (s.p_vaddr + s.p_filesz))
+
+-- memory from `base` on has a segment's bytes at its addresses
+abbrev pub IsInMemory : List ℕ → ℕ → List ℕ → Segment → Type 0
+IsInMemory file base memory s = (addr : ℕ) → IsTrue (holds addr s) → slice_index memory (addr - base) ≡ byte_of file s addr
+
+-- `size` bytes of memory from `base` on are 0 at each address in none of these segments
+abbrev pub IsZeroElsewhere : ℕ → ℕ → List ℕ → List Segment → Type 0
+IsZeroElsewhere base size memory segments =
+    (addr : ℕ) → base ≤ addr → addr < base + size → IsTrue (not (list_any (holds addr) segments)) → slice_index memory (addr - base) ≡ 0

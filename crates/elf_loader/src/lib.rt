@@ -7,12 +7,12 @@ mod fields;
 mod header;
 mod image;
 mod judging;
+mod laws;
 mod memory;
-mod plain;
 mod segment;
 #[cfg(test)]
 mod tests;
 
 pub use fault::ImageFault;
 pub use image::{Image, load};
-pub use plain::plain_image_is_loaded;
+pub use laws::{entry_can_be_fetched, plain_image_is_loaded, segments_are_in_memory};

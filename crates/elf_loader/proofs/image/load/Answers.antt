@@ -1,6 +1,5 @@
-use Rattle.std.proofs.Common.{◌≡◌, length, sym, ap, ◌∙◌, refl, arith, Err}
+use Rattle.std.proofs.Common.{length, ap, ◌∙◌, refl, arith}
 use Rattle.std.proofs.lemmas.Result.{err_from_is_err_and}
-use Rattle.elf_loader.specs.declared.fault.ImageFault.TheVariants.{OutOfMemory}
 use Rattle.elf_loader.proofs.RefusalFacts.{never_memory}
 use Rattle.elf_loader.proofs.LoadedFacts.{length_made, ranges_made, image_made}
 use Rattle.elf_loader.proofs.image.load.Goals as goal

@@ -1,4 +1,4 @@
-use Rattle.std.proofs.Common.{◌≡◌, ◌<◌, ◌≤◌, length, get_or, take, sym, ap, ◌∙◌, refl, true, false, ◌++◌, ◌∷◌, [], ◌+◌, append-nil, arith}
+use Rattle.std.proofs.Common.{◌≤◌, length, get_or, take, sym, ap, ◌∙◌, refl, true, false, ◌++◌, ◌∷◌, [], append-nil, arith}
 use Rattle.std.proofs.lemmas.List.{length-take-le}
 use Rattle.elf_loader.specs.declared.segment.Segment.{Segment}
 use Rattle.elf_loader.specs.Loaded.{fetch_ranges, range_of}

@@ -1,4 +1,4 @@
-use Rattle.std.proofs.Common.{◌≡◌, length, drop, take, get_or, ◌++◌, ◌+◌, sym, ap, ◌∙◌, subst, arith, refl}
+use Rattle.std.proofs.Common.{◌≡◌, length, take, get_or, ◌+◌, sym, ◌∙◌, subst, refl}
 use Rattle.std.proofs.lemmas.List.{take_at}
 use Rattle.elf_loader.specs.declared.segment.Segment.{Segment}
 use Rattle.elf_loader.proofs.FillFacts.{IsFilledBy, filled_more, filled_all}

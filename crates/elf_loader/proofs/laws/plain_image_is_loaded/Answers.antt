@@ -1,7 +1,7 @@
-use Rattle.std.proofs.Common.{◌≡◌, ◌+◌, ◌*◌, ◌<◌, ◌^◌, length, ap, sym, arith}
+use Rattle.std.proofs.Common.{◌<◌, ◌^◌, ap, sym, arith}
 use Rattle.elf_loader.specs.declared.header.Header.{Header}
 use Rattle.elf_loader.proofs.PlainFacts.{header_of-plain, refusal-plain, fetch_ranges-plain, loaded-plain, word_at-plain}
-use Rattle.elf_loader.proofs.plain.plain_image_is_loaded.Goals as goal
+use Rattle.elf_loader.proofs.laws.plain_image_is_loaded.Goals as goal
 
 pub returns : goal.returns
 returns c =
