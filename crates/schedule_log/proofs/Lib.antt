@@ -1,3 +1,6 @@
 pub mod DecimalLemmas
+pub mod EndLemmas
 pub mod EntryLemmas
+pub mod FeedLemmas
 pub mod ScheduleLemmas
+pub mod WalkLemmas

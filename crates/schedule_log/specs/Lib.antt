@@ -1,2 +1,6 @@
+pub mod Findings
+pub mod Grammar
 pub mod Schedule
+pub mod Steps
 pub mod Texts
+pub mod Verdict

@@ -2,9 +2,15 @@
 #![tactic(auto)]
 
 mod bytes;
+mod count;
 mod entry;
+mod fed;
+mod line;
+mod reader;
 mod schedule;
 
 pub use bytes::{push_bytes, push_decimal};
 pub use entry::{Entry, entry_text};
+pub use fed::{Fed, Last};
+pub use reader::Reader;
 pub use schedule::{next_line, read_line};
