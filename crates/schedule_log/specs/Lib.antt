@@ -1,5 +1,6 @@
 pub mod Findings
 pub mod Grammar
+pub mod Laws
 pub mod Schedule
 pub mod Steps
 pub mod Texts
