@@ -1,6 +1,8 @@
 pub mod DecimalLemmas
 pub mod EndLemmas
+pub mod EndReadingLemmas
 pub mod EntryLemmas
+pub mod EntryReadingLemmas
 pub mod FeedLemmas
 pub mod LawLemmas
 pub mod ScheduleLemmas

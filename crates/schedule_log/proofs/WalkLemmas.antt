@@ -91,7 +91,7 @@ walks_on start s part byte w is =
     }
 
 -- a whole piece, as the part taken and the rest
-split_at : (piece : List ℕ) (u : ℕ) → piece ≡ take u piece ++ drop u piece
+pub split_at : (piece : List ℕ) (u : ℕ) → piece ≡ take u piece ++ drop u piece
 split_at [] u = grind (arith, common_steps)
 split_at (byte ∷ piece) zero = refl
 split_at (byte ∷ piece) (suc u) = ap (λ rest. byte ∷ rest) (split_at piece u)

@@ -1,5 +1,7 @@
--- Laws over pieces of a schedule and over its events.
+-- Laws over pieces of a schedule, over its events, and over the texts of entries.
 use Rattle.std.specs.Prelude.{◌≡◌, ℕ, Bool, List, [], ◌++◌}
+use Rattle.schedule_log.specs.declared.entry.Entry.{Entry}
+use Rattle.schedule_log.specs.Texts.{text_of, IsEntry}
 use Rattle.schedule_log.specs.Findings.{Finding, Progress, Feeds, at_start, finds}
 use Rattle.schedule_log.specs.Verdict.{Fine, events, good, schedule_verdict}
 
@@ -15,3 +17,7 @@ WholeIsFound = (harts cores : ℕ) (text : List ℕ) (given : List Finding) (las
 -- of a schedule that nothing is wrong with every event runs
 abbrev pub FineRunsAll : Type 0
 FineRunsAll = (harts cores : ℕ) (bytes : List ℕ) → schedule_verdict harts cores bytes ≡ Fine → good harts cores bytes ≡ events harts cores bytes
+
+-- two entries of a chip never have one text
+abbrev pub OneTextOneEntry : Type 0
+OneTextOneEntry = (first second : Entry) → IsEntry first → IsEntry second → text_of first ≡ text_of second → first ≡ second

@@ -1,3 +1,4 @@
+pub mod EntryReading
 pub mod Findings
 pub mod Grammar
 pub mod Laws

@@ -1,5 +1,5 @@
-// Laws over whole schedules, each proved as the contract of a function that does nothing.
-ghost use Rattle.schedule_log.specs.Laws.{FineRunsAll, PiecesJoin, WholeIsFound};
+// Laws over whole schedules and orders, each proved as the contract of a function that does nothing.
+ghost use Rattle.schedule_log.specs.Laws.{FineRunsAll, OneTextOneEntry, PiecesJoin, WholeIsFound};
 
 /// A schedule says the same in whatever pieces it comes.
 pub fn pieces_join()
@@ -11,5 +11,11 @@ pub fn pieces_join()
 /// Every event of a schedule runs where no line is bad and no limit is passed.
 pub fn fine_runs_all()
     ensures { FineRunsAll }
+{
+}
+
+/// A line of an order is the text of one entry.
+pub fn one_text_one_entry()
+    ensures { OneTextOneEntry }
 {
 }
