@@ -38,19 +38,22 @@ split_round text k byte is some =
 tail_words : (core : ℕ) (text : List ℕ) (end : TryEnd) → end_after core text ≡ Some end → IsTail text end × (end.core ≡ core)
 tail_words core text end h =
     pick (nat_le 2 (length text) && (slice_index text (last_two text) == 32)) h
-      (λ is x. chained _ (acts_in (take (last_two text) text)) x (λ acts of_acts y. mapped _ (cause_in (drop (last_two text + 1) text)) y (λ cause of_cause same.
-        let a = acts_words _ acts of_acts in
-        let c = cause_words _ cause of_cause in
-        let both = and_true (nat_le 2 (length text)) (slice_index text (last_two text) == 32) is in
-        let parts = split_round text (last_two text) 32 (eqb-true _ 32 both.1) (omega arith) in
-        subst (λ e. IsTail text e × (e.core ≡ core)) same (record {
-          words = ap (λ front. front ++ 32 ∷ decimal cause) a.words ∙ ap (λ back. take (last_two text) text ++ 32 ∷ back) c.words ∙ parts;
-          some_acts = a.some;
-          few_acts = a.few;
-          first_cause = c.some;
-          last_cause = c.few;
-        }, refl))))
-      (λ _ y. absurd (cc))
+    (λ is x. chained _ (acts_in (take (last_two text) text)) x (λ acts of_acts y. mapped _ (cause_in (drop (last_two text + 1) text)) y (λ cause of_cause same.
+    let a = acts_words _ acts of_acts in
+    let c = cause_words _ cause of_cause in
+    let both = and_true (nat_le 2 (length text)) (slice_index text (last_two text) == 32) is in
+    let parts = split_round text (last_two text) 32 (eqb-true _ 32 both.1) (omega arith) in
+    subst (λ e. IsTail text e × (e.core ≡ core)) same (
+      record {
+        words = ap (λ front. front ++ 32 ∷ decimal cause) a.words ∙ ap (λ back. take (last_two text) text ++ 32 ∷ back) c.words ∙ parts;
+        some_acts = a.some;
+        few_acts = a.few;
+        first_cause = c.some;
+        last_cause = c.few;
+      },
+      refl,
+    ))))
+    (λ _ y. absurd (cc))
 
 -- the end of a try, by its numbers
 end_text_is : (core acts cause byte : ℕ) → decimal core ≡ byte ∷ [] → end_text core acts cause ≡ byte ∷ 32 ∷ (decimal acts ++ 32 ∷ decimal cause)
@@ -65,16 +68,16 @@ end_words [] end h = absurd (cc)
 end_words (byte ∷ []) end h = absurd (cc)
 end_words (byte ∷ space ∷ text) end h =
     pick (space == 32) h
-      (λ is x. chained _ (digit_in 4 (byte ∷ [])) x (λ core of_core y.
-        let d = digit_text 4 (byte ∷ []) core (omega arith) of_core in
-        let t = tail_words core text end y in
-        let core_is : decimal end.core ≡ byte ∷ [] = ap decimal t.1 ∙ d.digit in
-        let space_is : space ≡ 32 = eqb-true space 32 is in
-        record {
-          words = end_text_is end.core end.acts end.cause byte core_is ∙ ap (λ rest. byte ∷ 32 ∷ rest) t.0.words ∙ ap (λ b. byte ∷ b ∷ text) (sym space_is);
-          fits = record { core_below = omega (arith, t.1, d.below); some_acts = t.0.some_acts; few_acts = t.0.few_acts; first_cause = t.0.first_cause; last_cause = t.0.last_cause };
-        }))
-      (λ _ y. absurd (cc))
+    (λ is x. chained _ (digit_in 4 (byte ∷ [])) x (λ core of_core y.
+    let d = digit_text 4 (byte ∷ []) core (omega arith) of_core in
+    let t = tail_words core text end y in
+    let core_is : decimal end.core ≡ byte ∷ [] = ap decimal t.1 ∙ d.digit in
+    let space_is : space ≡ 32 = eqb-true space 32 is in
+    record {
+      words = end_text_is end.core end.acts end.cause byte core_is ∙ ap (λ rest. byte ∷ 32 ∷ rest) t.0.words ∙ ap (λ b. byte ∷ b ∷ text) (sym space_is);
+      fits = record { core_below = omega (arith, t.1, d.below); some_acts = t.0.some_acts; few_acts = t.0.few_acts; first_cause = t.0.first_cause; last_cause = t.0.last_cause };
+    }))
+    (λ _ y. absurd (cc))
 
 take_front : (front back : List ℕ) → take (length front) (front ++ back) ≡ front
 take_front [] back = refl
@@ -125,20 +128,20 @@ entry_words letter rest entry h =
     pick (letter == 115) h (λ is x. numbered letter 115 8 rest entry Step (omega arith) is (λ n. refl) (λ n below. below) x) (λ _ h.
     pick (letter == 119) h (λ is x. numbered letter 119 8 rest entry Waits (omega arith) is (λ n. refl) (λ n below. below) x) (λ _ h.
     pick (letter == 45) h (λ is x. mapped Idle (actor_in rest) x (λ a found made.
-      let w = actor_words rest a found in
-      subst (IsLineOf letter rest) made (record { words = lettered letter 45 rest (actor_text a) is w.words; fits = w.fits }))) (λ _ h.
+    let w = actor_words rest a found in
+    subst (IsLineOf letter rest) made (record { words = lettered letter 45 rest (actor_text a) is w.words; fits = w.fits }))) (λ _ h.
     pick (letter == 120) h (λ is x. mapped Held (actor_in rest) x (λ a found made.
-      let w = actor_words rest a found in
-      subst (IsLineOf letter rest) made (record { words = lettered letter 120 rest (actor_text a) is w.words; fits = w.fits }))) (λ _ h.
+    let w = actor_words rest a found in
+    subst (IsLineOf letter rest) made (record { words = lettered letter 120 rest (actor_text a) is w.words; fits = w.fits }))) (λ _ h.
     pick (letter == 111) h (λ is x. numbered letter 111 4 rest entry Open (omega arith) is (λ n. refl) (λ n below. below) x) (λ _ h.
     pick (letter == 108) h (λ is x. numbered letter 108 4 rest entry Lock (omega arith) is (λ n. refl) (λ n below. below) x) (λ _ h.
     pick (letter == 112) h (λ is x. numbered letter 112 4 rest entry Spec (omega arith) is (λ n. refl) (λ n below. below) x) (λ _ h.
     pick (letter == 99) h (λ is x. mapped committed (end_in rest) x (λ e found made.
-      let w = end_words rest e found in
-      subst (IsLineOf letter rest) made (record { words = lettered letter 99 rest (end_text e.core e.acts e.cause) is w.words; fits = w.fits }))) (λ _ h.
+    let w = end_words rest e found in
+    subst (IsLineOf letter rest) made (record { words = lettered letter 99 rest (end_text e.core e.acts e.cause) is w.words; fits = w.fits }))) (λ _ h.
     pick (letter == 114) h (λ is x. mapped taken_back (end_in rest) x (λ e found made.
-      let w = end_words rest e found in
-      subst (IsLineOf letter rest) made (record { words = lettered letter 114 rest (end_text e.core e.acts e.cause) is w.words; fits = w.fits }))) (λ _ h.
+    let w = end_words rest e found in
+    subst (IsLineOf letter rest) made (record { words = lettered letter 114 rest (end_text e.core e.acts e.cause) is w.words; fits = w.fits }))) (λ _ h.
     pick (letter == 102) h (λ is x. numbered letter 102 4 rest entry Flush (omega arith) is (λ n. refl) (λ n below. below) x) (λ _ h.
     pick (letter == 107) h (λ is x. numbered letter 107 4 rest entry Kern (omega arith) is (λ n. refl) (λ n below. below) x) (λ _ h. absurd (cc))))))))))))
 

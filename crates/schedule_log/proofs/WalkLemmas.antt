@@ -144,7 +144,7 @@ bad_state s byte why is = at_feed (is_feed byte) refl
     at_feed true same = let said : reading s.harts s.cores s.begun ≡ Reading_is.Bad why = rw same at is in rw same (ap (λ said. (after_line s said).bad) said)
     at_feed false other = at_length other (nat_lt (length s.begun) 32) refl
 
-bad_ended : (s : Progress) (byte why : ℕ) → said_at s byte ≡ Reading_is.Bad why → (after_byte s byte).ended ≡ s.ended
+pub bad_ended : (s : Progress) (byte why : ℕ) → said_at s byte ≡ Reading_is.Bad why → (after_byte s byte).ended ≡ s.ended
 bad_ended s byte why is = at_feed (is_feed byte) refl
   where
     at_length : is_feed byte ≡ false → (b : Bool) → nat_lt (length s.begun) 32 ≡ b → (after_byte s byte).ended ≡ s.ended

@@ -15,9 +15,9 @@ digit_in limit text = if (length text == 1) && nat_le 48 (slice_index text 0) &&
 abbrev pub actor_in : List ℕ → Option Actor
 actor_in text = if slice_index text 0 == 104 then option_map Hart (digit_in 8 (drop 1 text)) else (if slice_index text 0 == 110 then option_map Core (digit_in 4 (drop 1 text)) else None)
 
--- a number from 1 to 65536
+-- a number from 1 to 65536; `count_of` takes no 0
 abbrev pub acts_in : List ℕ → Option ℕ
-acts_in text = option_and_then (λ acts. if nat_le 1 acts && nat_le acts 65536 then Some acts else None) (count_of text)
+acts_in text = option_and_then (λ acts. if nat_le acts 65536 then Some acts else None) (count_of text)
 
 -- a digit from 1 to 7
 abbrev pub cause_in : List ℕ → Option ℕ

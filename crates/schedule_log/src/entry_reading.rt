@@ -10,7 +10,9 @@ use conda_base::Actor;
 
 /// The most harts and cores, and acts of a try, that an order may name.
 const HARTS: u8 = 8;
+
 const CORES: u8 = 4;
+
 const MAX_ACTS: u32 = 65_536;
 
 /// The causes of a try's end are the digits below this, without 0.
@@ -52,11 +54,7 @@ fn read_acts(text: &[u8]) -> Option<u32>
     ensures { result ≡ acts_in text.now }
 {
     let acts = read_count(text)?;
-    if acts >= 1 && acts <= MAX_ACTS {
-        Some(acts)
-    } else {
-        None
-    }
+    if acts <= MAX_ACTS { Some(acts) } else { None }
 }
 
 fn read_cause(text: &[u8]) -> Option<u8>

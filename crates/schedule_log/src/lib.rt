@@ -18,3 +18,6 @@ pub use fed::{Fed, Last};
 pub use laws::{fine_runs_all, one_text_one_entry, pieces_join};
 pub use reader::Reader;
 pub use schedule::{next_line, read_line};
+
+#[cfg(test)]
+mod tests;

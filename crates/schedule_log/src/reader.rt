@@ -1,5 +1,5 @@
 // A schedule that comes in pieces.
-ghost use Rattle.std.specs.Prelude.{◌≡◌, ◌+◌, ◌^◌, ◌<◌, ◌↔◌, take, None, IsSome};
+ghost use Rattle.std.specs.Prelude.{◌≡◌, ◌+◌, ◌^◌, ◌<◌, ◌≤◌, ◌↔◌, take, None, IsSome};
 ghost use Rattle.schedule_log.specs.Schedule.{is_feed};
 ghost use Rattle.schedule_log.specs.Findings.{at_start, bad_by, feeds_in, given_by, left_over, said_by, shown, used_by, answer_at, Feeds, IsBegun, IsEndedWell, IsUsed};
 ghost use Rattle.schedule_log.specs.Steps.{after_byte, after_line, said_at};
@@ -89,13 +89,14 @@ impl Reader {
     /// Takes the next piece, up to the end of the first line in it that asks for events. After a bad line it takes
     /// nothing more.
     pub fn feed(&mut self, piece: &[u8]) -> Fed
-        requires few { self.old.ended < 2 ^ 62 }
+        requires { self.old.ended < 2 ^ 62 }
         ensures feeds { Feeds self.old (take (used_by result piece.now) piece.now) (given_by result) self.new }
         ensures answer { result ≡ answer_at (used_by result piece.now) (shown self.old piece.now) }
         ensures used { IsUsed result piece.now }
         ensures bad { self.new.bad ≡ bad_by result }
         ensures ended { self.new.bad ≡ None → self.new.ended
             ≡ self.old.ended + feeds_in (take (used_by result piece.now) piece.now) }
+        ensures few { self.new.ended ≤ self.old.ended + used_by result piece.now }
         ensures begun { IsBegun self.new.begun }
         ensures chip { (self.new.harts ≡ self.old.harts) × (self.new.cores ≡ self.old.cores) }
         ensures stays { IsSome self.old.bad → self.new ≡ self.old }

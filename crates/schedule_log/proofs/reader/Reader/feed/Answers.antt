@@ -4,7 +4,7 @@ use Rattle.std.proofs.lemmas.Option.{slice_get-get_or}
 use Rattle.std.proofs.Math.Seq.{take-length}
 use Rattle.schedule_log.specs.Findings.{feeds_in, given_by, left_over, said_by, shown, used_by, answer_at, Feeds, IsBegun, IsUsed, Progress}
 use Rattle.schedule_log.specs.Steps.{after_byte, after_line, said_at}
-use Rattle.schedule_log.proofs.WalkLemmas.{feeds_in_taken, walks_on, walks_events, walks_bad, answer_events, answer_bad, answer_more, bad_line_at, events_end}
+use Rattle.schedule_log.proofs.WalkLemmas.{feeds_in_taken, walks_on, walks_events, walks_bad, answer_events, answer_bad, answer_more, bad_ended, bad_line_at, events_end}
 use Rattle.schedule_log.proofs.reader.Reader.feed.Goals as goal
 
 pub take-requires : goal.take-requires
@@ -37,6 +37,13 @@ returns-in-Events-clause-ended c = λ _.
     let next = take_more c.args.piece.now c.loop-index.index 0 c.loop-index-test.true in
     rw (next, c.take.ensures.state) (walks_events _ _ _ _ _ _ c.loop-index.invariant (sym c.take.ensures.said ∙ c.in-Events.is)).ended
 
+pub returns-in-Events-clause-few : goal.returns-in-Events-clause-few
+returns-in-Events-clause-few c =
+    let next = take_more c.args.piece.now c.loop-index.index 0 c.loop-index-test.true in
+    let grown : c.take.new.self.ended ≡ c.args.self.now.ended + feeds_in (take (c.loop-index.index + 1) c.args.piece.now) =
+    rw (next, c.take.ensures.state) (walks_events _ _ _ _ _ _ c.loop-index.invariant (sym c.take.ensures.said ∙ c.in-Events.is)).ended in
+    omega (arith, grown, feeds_in_taken c.args.piece.now (c.loop-index.index + 1))
+
 pub returns-in-Bad-clause-feeds : goal.returns-in-Bad-clause-feeds
 returns-in-Bad-clause-feeds c =
     let next = take_more c.args.piece.now c.loop-index.index 0 c.loop-index-test.true in
@@ -55,3 +62,12 @@ returns-clause-answer c =
     let all : c.loop-index.index ≡ length c.args.piece.now = omega arith in
     let feeds : Feeds c.args.self.now c.args.piece.now [] c.loop-index.self = rw (all, take-length) at c.loop-index.invariant.feeds in
     answer_more c.args.self.now c.loop-index.self c.args.piece.now (length c.args.piece.now) feeds c.loop-index.invariant.good c.loop-index.invariant.begun
+
+pub returns-in-Bad-clause-few : goal.returns-in-Bad-clause-few
+returns-in-Bad-clause-few c =
+    let still : c.take.new.self.ended ≡ c.loop-index.self.ended =
+    rw c.take.ensures.state (bad_ended c.loop-index.self (get_or c.args.piece.now c.loop-index.index 0) c.in-Bad.why (sym c.take.ensures.said ∙ c.in-Bad.is)) in
+    omega (arith, c.loop-index.invariant.ended, feeds_in_taken c.args.piece.now c.loop-index.index)
+
+pub returns-clause-few : goal.returns-clause-few
+returns-clause-few c = omega (arith, c.loop-index.invariant.ended, feeds_in_taken c.args.piece.now c.loop-index.index)
