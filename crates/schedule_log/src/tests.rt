@@ -1,3 +1,6 @@
+// Schedules in pieces, and entries read back.
+ghost use Rattle.std.specs.Prelude.{◌<◌, length};
+
 use crate::{
     Entry, Fed, Last, Reader, entry_text, fine_runs_all, one_text_one_entry, pieces_join,
     read_entry,
@@ -19,7 +22,9 @@ fn ended(text: &[u8]) -> Last {
 }
 
 // The first answer other than More, where the schedule is cut in two.
-fn in_two(text: &[u8], cut: usize) -> Fed {
+fn in_two(text: &[u8], cut: usize) -> Fed
+    requires { length text.now < 100 }
+{
     let mut reader = Reader::new(1, 1);
     let (front, back) = text.split_at(cut.min(text.len()));
     match reader.feed(front) {
@@ -29,7 +34,9 @@ fn in_two(text: &[u8], cut: usize) -> Fed {
 }
 
 // The answer to the last byte, where the schedule is fed byte by byte.
-fn by_bytes(text: &[u8]) -> Fed {
+fn by_bytes(text: &[u8]) -> Fed
+    requires { length text.now < 100 }
+{
     let mut reader = Reader::new(1, 1);
     let mut answer = Fed::More { used: 0 };
     for byte in text {
