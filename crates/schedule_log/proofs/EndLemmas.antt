@@ -1,5 +1,5 @@
 -- What a schedule's end brings.
-use Rattle.std.proofs.Common.{◌≡◌, ℕ, ◌+◌, ◌-◌, ◌<◌, ◌≤◌, ◌==◌, Bool, true, false, List, [], ◌∷◌, ◌++◌, length, take, drop, refl, sym, ◌∙◌, ap, subst, arith, inl, inr}
+use Rattle.std.proofs.Common.{◌≡◌, ℕ, ◌+◌, ◌-◌, ◌≤◌, ◌==◌, Bool, true, false, List, [], ◌∷◌, ◌++◌, length, drop, refl, sym, ◌∙◌, ap, arith, inl, inr}
 use Rattle.std.specs.Prelude.{Option, Some, None, ◌⊎◌, nat_lt, slice_index}
 use Rattle.std.specs.List.{list_any}
 use Rattle.std.proofs.lemmas.Bool.{eqb-true}
@@ -11,7 +11,7 @@ use Rattle.schedule_log.specs.declared.line.Reading.{Reading}
 use Rattle.schedule_log.specs.declared.line.Reading.TheVariants as Reading_is
 use Rattle.schedule_log.specs.Schedule.{is_feed, count_of, last_line, judged_lines}
 use Rattle.schedule_log.specs.Grammar.{reading, blank_or_worded, worded, counted, has_form, actor_of, is_on_chip, without_return, ends_in_return}
-use Rattle.schedule_log.specs.Findings.{Finding, Asks, Fails, Progress, found_then, found_from, finds, left_over, unless_bad}
+use Rattle.schedule_log.specs.Findings.{Progress, found_then, found_from, left_over, unless_bad}
 use Rattle.schedule_log.proofs.FeedLemmas.{judged_part, nothing_after}
 
 last_alone : (harts cores number : ℕ) (line : List ℕ) → found_from harts cores number (last_line false line) ≡ found_then (reading harts cores line) number []

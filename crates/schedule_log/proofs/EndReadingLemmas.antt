@@ -1,6 +1,6 @@
 -- The end of a try and a whole line of an order are read back.
-use Rattle.std.proofs.Common.{◌≡◌, ℕ, ◌+◌, ◌-◌, ◌<◌, ◌≤◌, ◌==◌, Bool, true, false, List, [], ◌∷◌, ◌++◌, length, take, drop, refl, sym, ◌∙◌, ap, subst, arith, length-append, length-drop, append_assoc, add-one, drop-cons, get_or, zero, suc}
-use Rattle.std.specs.Prelude.{Option, Some, None, IfSome, option_map, option_and_then, slice_index, nat_le, ◌&&◌}
+use Rattle.std.proofs.Common.{◌≡◌, ℕ, ◌+◌, ◌-◌, ◌<◌, ◌≤◌, ◌==◌, true, List, [], ◌∷◌, ◌++◌, length, take, drop, refl, sym, ◌∙◌, ap, subst, arith, length-append, length-drop, append_assoc, add-one, drop-cons, zero, suc}
+use Rattle.std.specs.Prelude.{Option, Some, None, IfSome, option_map, slice_index, nat_le, ◌&&◌}
 use Rattle.std.specs.Fmt.{decimal}
 use Rattle.std.proofs.lemmas.Fmt.{decimal_digit}
 use Rattle.std.proofs.lemmas.List.{take_all}
@@ -9,9 +9,9 @@ use Rattle.std.proofs.lemmas.Bool.Decides.{nat_tests}
 use Rattle.schedule_log.specs.declared.entry.Entry.{Entry}
 use Rattle.schedule_log.specs.declared.entry.Entry.TheVariants.{Step, Waits, Idle, Held, Open, Lock, Spec, Commit, Back, Flush, Kern}
 use Rattle.schedule_log.specs.declared.entry_reading.TryEnd.{TryEnd}
-use Rattle.schedule_log.specs.Texts.{actor_text, end_text, text_of, IsActor, IsEnd, IsEntry}
+use Rattle.schedule_log.specs.Texts.{actor_text, end_text, text_of, IsEnd, IsEntry}
 use Rattle.schedule_log.specs.EntryReading.{acts_in, actor_in, cause_in, committed, digit_in, end_after, end_in, entry_at, entry_by, last_two, taken_back}
-use Rattle.schedule_log.proofs.EntryReadingLemmas.{acts_read, acts_words, actor_read, actor_words, and_true, cause_read, cause_words, chained, digit_read, digit_text, mapped, pick, IsActorIn, IsActs, IsCause, IsDigit}
+use Rattle.schedule_log.proofs.EntryReadingLemmas.{acts_read, acts_words, actor_read, actor_words, and_true, cause_read, cause_words, chained, digit_read, digit_text, mapped, pick}
 use Rattle.schedule_log.proofs.WalkLemmas.{split_at}
 
 -- the text after a core and a space

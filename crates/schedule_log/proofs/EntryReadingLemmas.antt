@@ -1,23 +1,18 @@
 -- Lines of an order are read back as the entries whose texts they are.
-use Rattle.std.proofs.Common.{◌≡◌, ℕ, ◌+◌, ◌-◌, ◌<◌, ◌≤◌, ◌==◌, ◌&&◌, Bool, true, false, List, [], ◌∷◌, ◌++◌, length, take, drop, refl, sym, ◌∙◌, ap, subst, ◌^◌, ◌*◌, ◌/◌, ◌%◌, arith, length-append, append_assoc, add-one, drop-cons, get_or, zero, suc, rules, not}
-use Rattle.std.specs.Prelude.{Option, Some, None, option_map, option_and_then, slice_index, if◌then◌else◌, nat_le, nat_lt}
+use Rattle.std.proofs.Common.{◌≡◌, ℕ, ◌+◌, ◌-◌, ◌<◌, ◌≤◌, ◌==◌, ◌&&◌, Bool, true, false, List, [], ◌∷◌, ◌++◌, length, refl, sym, ◌∙◌, ap, subst, ◌^◌, ◌%◌, arith, zero, suc, rules}
+use Rattle.std.specs.Prelude.{Option, Some, None, option_map, option_and_then, if◌then◌else◌, nat_le, nat_lt}
 use Rattle.std.specs.List.{list_all}
 use Rattle.std.specs.Fmt.{decimal}
 use Rattle.std.proofs.lemmas.Fmt.{decimal_by_steps, decimal_digit, decimal-digits_value, digits_decimal, digits_value-decimal}
 use Rattle.std.proofs.lemmas.Str.Parse.{IsDigitsTest, FoldsDigits, IsNumeralModel, numerals_by_fold}
 use Rattle.std.proofs.lemmas.Bool.{eqb-true}
 use Rattle.std.proofs.lemmas.Bool.Decides.{nat_tests}
-use Rattle.std.proofs.lemmas.Grind.{common_steps}
 use Rattle.conda_base.specs.declared.actor.Actor.{Actor}
 use Rattle.conda_base.specs.declared.actor.Actor.TheVariants.{Hart, Core}
-use Rattle.schedule_log.specs.declared.entry.Entry.{Entry}
-use Rattle.schedule_log.specs.declared.entry.Entry.TheVariants.{Step, Waits, Idle, Held, Open, Lock, Spec, Commit, Back, Flush, Kern}
-use Rattle.schedule_log.specs.declared.entry_reading.TryEnd.{TryEnd}
 use Rattle.schedule_log.specs.Schedule.{begins_above_zero, count_of, is_digit, number_after}
-use Rattle.schedule_log.specs.Texts.{actor_text, end_text, text_of, IsActor, IsEnd, IsEntry}
-use Rattle.schedule_log.specs.EntryReading.{acts_in, actor_in, cause_in, committed, digit_in, end_after, end_in, entry_at, entry_by, last_two, taken_back}
+use Rattle.schedule_log.specs.Texts.{actor_text, IsActor}
+use Rattle.schedule_log.specs.EntryReading.{acts_in, actor_in, cause_in, digit_in}
 use Rattle.schedule_log.proofs.ScheduleLemmas.{count_of_good}
-use Rattle.schedule_log.proofs.WalkLemmas.{split_at}
 
 -- a choice that gave a value took one of its ways
 pub pick : {X R : Type 0} (b : Bool) {x y : Option X} {v : X} → (if b then x else y) ≡ Some v → (b ≡ true → x ≡ Some v → R) → (b ≡ false → y ≡ Some v → R) → R

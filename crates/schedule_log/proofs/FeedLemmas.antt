@@ -1,16 +1,14 @@
 -- How pieces of a schedule join.
-use Rattle.std.proofs.Common.{◌≡◌, ℕ, ◌+◌, ◌-◌, ◌<◌, ◌≤◌, ◌==◌, Bool, true, false, List, [], ◌∷◌, ◌++◌, length, take, drop, refl, sym, ◌∙◌, ap, subst, arith, append_assoc, length-append}
-use Rattle.std.specs.Prelude.{Option, Some, None, nat_lt}
+use Rattle.std.proofs.Common.{◌≡◌, ℕ, ◌+◌, ◌<◌, ◌≤◌, Bool, true, false, List, [], ◌∷◌, ◌++◌, length, refl, sym, ◌∙◌, ap, subst, arith, append_assoc, length-append}
+use Rattle.std.specs.Prelude.{None, nat_lt}
 use Rattle.std.specs.List.{list_any}
 use Rattle.std.proofs.lemmas.Bool.{eqb-true}
 use Rattle.std.proofs.lemmas.Bool.Decides.{nat_tests}
-use Rattle.std.proofs.lemmas.Grind.{common_steps}
-use Rattle.schedule_log.specs.declared.line.BadLine.{BadLine}
 use Rattle.schedule_log.specs.declared.line.Reading.{Reading}
 use Rattle.schedule_log.specs.declared.line.Reading.TheVariants as Reading_is
 use Rattle.schedule_log.specs.Schedule.{is_feed, ended_lines, last_part, last_line, is_last_line, judged_lines}
 use Rattle.schedule_log.specs.Grammar.{reading}
-use Rattle.schedule_log.specs.Findings.{Finding, Asks, Fails, found_then, found_from, findings, Progress, at_start, unless_bad, finds, shown, left_over, Feeds, IsBegun, feeds_in}
+use Rattle.schedule_log.specs.Findings.{Finding, Asks, found_then, found_from, Progress, unless_bad, finds, Feeds}
 use Rattle.schedule_log.specs.Steps.{after_line, after_byte, said_at, asked_by}
 use Rattle.schedule_log.proofs.ScheduleLemmas.{ended_lines_at, last_part_at, ended_lines_none, last_part_none}
 

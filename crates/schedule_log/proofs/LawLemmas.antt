@@ -1,11 +1,11 @@
 -- The laws over whole schedules.
-use Rattle.std.proofs.Common.{◌≡◌, ℕ, ◌+◌, ◌<◌, ◌≤◌, Bool, true, false, List, [], ◌∷◌, ◌++◌, length, take, refl, sym, ◌∙◌, ap, arith}
-use Rattle.std.specs.Prelude.{if◌then◌else◌, nat_le, nat_lt, replicate}
+use Rattle.std.proofs.Common.{◌≡◌, ℕ, ◌+◌, ◌≤◌, Bool, true, false, List, [], ◌∷◌, ◌++◌, length, take, refl, sym, ◌∙◌, ap, arith}
+use Rattle.std.specs.Prelude.{if◌then◌else◌, nat_le, replicate}
 use Rattle.std.proofs.lemmas.Bool.Decides.{nat_tests}
 use Rattle.std.proofs.lemmas.List.{take_all}
 use Rattle.schedule_log.specs.Schedule.{judged_lines}
-use Rattle.schedule_log.specs.Findings.{Finding, Asks, Fails, Progress, Feeds, at_start, finds, findings, found_from}
-use Rattle.schedule_log.specs.Verdict.{Verdict, Fine, BadLine, TooLarge, events, events_of, good, good_after, is_too_long, judged_findings, most_bytes, most_events, schedule_verdict, verdict_after}
+use Rattle.schedule_log.specs.Findings.{Finding, Asks, Fails, at_start, finds, findings, found_from}
+use Rattle.schedule_log.specs.Verdict.{Fine, BadLine, TooLarge, events_of, good_after, is_too_long, judged_findings, most_bytes, most_events, verdict_after}
 use Rattle.schedule_log.specs.Laws.{PiecesJoin, WholeIsFound, FineRunsAll}
 use Rattle.schedule_log.proofs.FeedLemmas.{feeds_join, nothing_after}
 

@@ -1,7 +1,6 @@
 -- A reader on its way through a piece.
-use Rattle.std.proofs.Common.{◌≡◌, ℕ, ◌+◌, ◌-◌, ◌<◌, ◌≤◌, Bool, true, false, List, [], ◌∷◌, ◌++◌, length, take, drop, zero, suc, refl, sym, ◌∙◌, ap, subst, arith, append_assoc, length-append}
-use Rattle.std.specs.Prelude.{Option, Some, None, slice_get, nat_lt}
-use Rattle.std.specs.List.{list_any}
+use Rattle.std.proofs.Common.{◌≡◌, ℕ, ◌+◌, ◌≤◌, Bool, true, false, List, [], ◌∷◌, ◌++◌, length, take, drop, zero, suc, refl, sym, ◌∙◌, ap, subst, arith, length-append}
+use Rattle.std.specs.Prelude.{Some, None, nat_lt}
 use Rattle.std.proofs.lemmas.Bool.{eqb-true}
 use Rattle.std.proofs.lemmas.Bool.Decides.{nat_tests}
 use Rattle.std.proofs.lemmas.Grind.{common_steps}
@@ -10,10 +9,10 @@ use Rattle.conda_base.specs.declared.actor.Actor.{Actor}
 use Rattle.schedule_log.specs.declared.line.BadLine.{BadLine}
 use Rattle.schedule_log.specs.declared.line.Reading.{Reading}
 use Rattle.schedule_log.specs.declared.line.Reading.TheVariants as Reading_is
-use Rattle.schedule_log.specs.Schedule.{is_feed, is_last_line, judged_lines}
+use Rattle.schedule_log.specs.Schedule.{is_feed, is_last_line}
 use Rattle.schedule_log.specs.Grammar.{reading}
-use Rattle.schedule_log.specs.Findings.{Finding, Asks, Fails, Progress, finds, unless_bad, found_from, shown, answer_at, Feeds, IsBegun, feeds_in}
-use Rattle.schedule_log.specs.Steps.{after_line, after_byte, said_at, asked_by}
+use Rattle.schedule_log.specs.Findings.{Finding, Asks, Fails, Progress, shown, answer_at, Feeds, IsBegun, feeds_in}
+use Rattle.schedule_log.specs.Steps.{after_line, after_byte, said_at}
 use Rattle.schedule_log.specs.declared.fed.Fed.TheVariants as Fed_is
 use Rattle.schedule_log.proofs.FeedLemmas.{any_more, judged_part, nothing_after, feeds_join, feeds_byte, feeds_nothing}
 

@@ -1,5 +1,5 @@
 -- What one line of a schedule says.
-use Rattle.std.specs.Prelude.{ℕ, ◌-◌, ◌==◌, ◌&&◌, ◌||◌, Bool, List, [], ◌∷◌, length, take, drop, Option, Some, None, slice_index, if◌then◌else◌, nat_le, nat_lt}
+use Rattle.std.specs.Prelude.{ℕ, ◌-◌, ◌==◌, ◌&&◌, ◌||◌, Bool, List, length, take, drop, Option, Some, None, slice_index, if◌then◌else◌, nat_le, nat_lt}
 use Rattle.std.specs.List.{list_all}
 use Rattle.conda_base.specs.declared.actor.Actor.{Actor}
 use Rattle.conda_base.specs.declared.actor.Actor.TheVariants.{Hart, Core}

@@ -1,9 +1,8 @@
-use Rattle.std.proofs.Common.{◌≡◌, ℕ, ◌+◌, ◌-◌, ◌^◌, ◌<◌, ◌≤◌, [], ◌∷◌, ◌++◌, length, take, get_or, Some, None, sym, ap, ◌∙◌, arith}
+use Rattle.std.proofs.Common.{◌≡◌, ◌+◌, ◌-◌, ◌≤◌, [], length, take, get_or, Some, sym, ap, ◌∙◌, arith}
 use Rattle.std.proofs.lemmas.List.{take_more}
 use Rattle.std.proofs.lemmas.Option.{slice_get-get_or}
 use Rattle.std.proofs.Math.Seq.{take-length}
-use Rattle.schedule_log.specs.Findings.{feeds_in, given_by, left_over, said_by, shown, used_by, answer_at, Feeds, IsBegun, IsUsed, Progress}
-use Rattle.schedule_log.specs.Steps.{after_byte, after_line, said_at}
+use Rattle.schedule_log.specs.Findings.{feeds_in, Feeds, Progress}
 use Rattle.schedule_log.proofs.WalkLemmas.{feeds_in_taken, walks_on, walks_events, walks_bad, answer_events, answer_bad, answer_more, bad_ended, bad_line_at, events_end}
 use Rattle.schedule_log.proofs.reader.Reader.feed.Goals as goal
 
