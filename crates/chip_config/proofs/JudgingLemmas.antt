@@ -1,5 +1,5 @@
 -- From numbers in range to a configuration, and from bytes to data.
-use Rattle.std.proofs.Common.{◌≡◌, ℕ, ◌+◌, ◌%◌, ◌<◌, ◌≤◌, ◌==◌, ◌&&◌, ◌||◌, Bool, true, false, List, [], ◌∷◌, length, get_or, map, zero, suc, refl, sym, ◌∙◌, ap, subst, arith, inl, inr}
+use Rattle.std.proofs.Common.{◌≡◌, ℕ, ◌%◌, ◌<◌, ◌≤◌, ◌==◌, ◌&&◌, Bool, true, false, List, [], ◌∷◌, length, get_or, zero, suc, refl, sym, ◌∙◌, ap, subst, arith, inr}
 use Rattle.std.specs.Prelude.{Option, Some, None, Result, Ok, Err, IfOk, IfErr, MatchResult, IsTrue, IsUtf8, ◌⊎◌, slice_index, nat_le}
 use Rattle.std.specs.Int.{is_power_of_two}
 use Rattle.std.specs.Str.{is_utf8}
@@ -9,12 +9,11 @@ use lib.Count.{ones}
 use Rattle.serde_json.specs.Data.{Data, Members}
 use Rattle.serde_json.specs.Find.{as_object}
 use Rattle.serde_json.specs.Read.{read as read_text}
-use Rattle.conda_base.specs.Lines.{IsLineSize}
 use Rattle.chip_config.specs.declared.config.Config.{Config}
 use Rattle.chip_config.specs.declared.fault.ConfigFault.{ConfigFault}
 use Rattle.chip_config.specs.declared.fault.ConfigFault.TheVariants as Fault_is
-use Rattle.chip_config.specs.declared.keys.Range.TheVariants.{Between, PowerUpTo, MultipleOf64, LineSize}
-use Rattle.chip_config.specs.Keys.{Key, key, keys, within, harts, mem_base, mem_bytes, line_bytes}
+use Rattle.chip_config.specs.declared.keys.Range.TheVariants.{Between, PowerUpTo, MultipleOf64}
+use Rattle.chip_config.specs.Keys.{Key, keys, within, harts, mem_base, mem_bytes, line_bytes}
 use Rattle.chip_config.specs.Settings.{are_keys, configured, data_of, first_outside, first_without, memory_fault, number_of, numbers_of, settings, settings_of, unless_fault, AreRanged}
 
 and_true : (a b : Bool) → (a && b) ≡ true → (a ≡ true) × (b ≡ true)

@@ -1,6 +1,6 @@
 -- What reading a configuration uses of its definitions.
-use Rattle.std.proofs.Common.{◌≡◌, ℕ, ◌+◌, ◌-◌, ◌%◌, ◌<◌, ◌≤◌, ◌==◌, ◌&&◌, ◌||◌, Bool, true, false, List, [], ◌∷◌, ◌++◌, length, take, drop, get_or, map, zero, suc, refl, sym, ◌∙◌, ap, subst, arith, add-one, drop-cons, append_assoc, append-nil, set}
-use Rattle.std.specs.Prelude.{Option, Some, None, String, string_bytes, if◌then◌else◌, is_some, unwrap_or}
+use Rattle.std.proofs.Common.{◌≡◌, ℕ, ◌+◌, ◌%◌, ◌<◌, ◌≤◌, ◌&&◌, ◌||◌, Bool, true, false, List, [], ◌∷◌, ◌++◌, length, take, drop, get_or, map, zero, suc, refl, sym, ◌∙◌, ap, arith, add-one, drop-cons, append_assoc, append-nil, set}
+use Rattle.std.specs.Prelude.{Some, None, String, string_bytes, if◌then◌else◌, is_some, unwrap_or}
 use Rattle.std.specs.List.{list_any}
 use Rattle.std.specs.Str.{bytes_eq}
 use Rattle.std.specs.declared.alloc.Global.{Global}
@@ -9,10 +9,10 @@ use Rattle.std.proofs.lemmas.Bool.Decides.{nat_tests}
 use Rattle.serde_json.specs.declared.value.Value.{Value}
 use Rattle.serde_json.specs.Data.{Data}
 use Rattle.serde_json.specs.Find.{get}
-use Rattle.serde_json.specs.View.{members_view, view}
+use Rattle.serde_json.specs.View.{members_view}
 use Rattle.chip_config.specs.declared.keys.Entry.{Entry}
 use Rattle.chip_config.specs.declared.fault.ConfigFault.TheVariants.{NotNumber, OutOfRange}
-use Rattle.chip_config.specs.Keys.{Key, key, keys, keys_from, is_key, within}
+use Rattle.chip_config.specs.Keys.{Key, keys, keys_from, is_key, within}
 use Rattle.chip_config.specs.Settings.{are_keys, first_outside, first_without, is_memory, memory_fault, number_of, number_or}
 
 -- names that are keys

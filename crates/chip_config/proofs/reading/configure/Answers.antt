@@ -1,4 +1,4 @@
-use Rattle.std.proofs.Common.{◌≡◌, ◌+◌, ◌≤◌, arith, slice_index}
+use Rattle.std.proofs.Common.{arith, slice_index}
 use Rattle.chip_config.proofs.ReadingLemmas.{memory_fine, sixteen_of}
 use Rattle.chip_config.proofs.reading.configure.Goals as goal
 

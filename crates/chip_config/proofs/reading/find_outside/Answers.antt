@@ -1,4 +1,4 @@
-use Rattle.std.proofs.Common.{◌≡◌, ◌<◌, arith, length, rules, sym, ◌∙◌}
+use Rattle.std.proofs.Common.{◌<◌, arith, length, rules, sym, ◌∙◌}
 use Rattle.chip_config.proofs.ReadingLemmas.{length_table, outside_here, outside_later}
 use Rattle.chip_config.proofs.reading.find_outside.Goals as goal
 

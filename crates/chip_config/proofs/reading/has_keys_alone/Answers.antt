@@ -1,4 +1,4 @@
-use Rattle.std.proofs.Common.{◌≡◌, ◌∷◌, ap, rules, sym, ◌∙◌, true, false}
+use Rattle.std.proofs.Common.{◌≡◌, ◌∷◌, ap, sym, ◌∙◌, true, false}
 use Rattle.std.specs.Prelude.{string_bytes}
 use Rattle.chip_config.specs.Keys.{is_key}
 use Rattle.chip_config.proofs.ReadingLemmas.{are_names, name_is, names_of_members}

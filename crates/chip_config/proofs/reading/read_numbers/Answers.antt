@@ -1,4 +1,4 @@
-use Rattle.std.proofs.Common.{◌≡◌, ◌<◌, arith, length, length-set, rules, sym, ◌∙◌}
+use Rattle.std.proofs.Common.{◌≡◌, ◌<◌, arith, length, rules, sym, ◌∙◌}
 use Rattle.serde_json.specs.View.{view}
 use Rattle.chip_config.proofs.ReadingLemmas.{length_table, without_end, without_later, written_end, written_more}
 use Rattle.chip_config.proofs.reading.read_numbers.Goals as goal
