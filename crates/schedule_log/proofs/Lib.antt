@@ -1,3 +1,9 @@
 pub mod DecimalLemmas
+pub mod EndLemmas
+pub mod EndReadingLemmas
 pub mod EntryLemmas
+pub mod EntryReadingLemmas
+pub mod FeedLemmas
+pub mod LawLemmas
 pub mod ScheduleLemmas
+pub mod WalkLemmas

@@ -1,37 +1,11 @@
 // The lines of a schedule.
 ghost use Rattle.std.specs.Prelude.{◌≡◌, ◌<◌, [], ◌∷◌, length, position, IfSome, IfNone};
-ghost use Rattle.schedule_log.specs.Schedule.{is_digit, is_feed, is_last_line, count_of, line_count, judged_lines};
+ghost use Rattle.schedule_log.specs.Schedule.{is_feed, is_last_line, line_count, judged_lines};
 
-/// The most events that one line of a schedule may ask for.
-const MAX_COUNT: u32 = 67_108_864;
+use crate::count::read_count;
 
 /// The most bytes of a line that may still be a good one.
 const MAX_LINE: usize = 32;
-
-fn is_decimal(byte: u8) -> bool
-    ensures { result ≡ is_digit byte }
-{
-    byte >= b'0' && byte <= b'9'
-}
-
-fn read_count(digits: &[u8]) -> Option<u32>
-    ensures { result ≡ count_of digits.now }
-{
-    if digits.is_empty() || digits[0] == b'0' {
-        return None;
-    }
-    let mut count = 0u32;
-    for digit in digits {
-        if !is_decimal(*digit) {
-            return None;
-        }
-        count = count * 10 + u32::from(*digit - b'0');
-        if count > MAX_COUNT {
-            return None;
-        }
-    }
-    Some(count)
-}
 
 /// The number of events of hart 0 that a line asks for: `h0`, a space and a count. None where the line is of
 /// another form.

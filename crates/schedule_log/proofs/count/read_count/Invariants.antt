@@ -1,7 +1,7 @@
 use Rattle.std.proofs.Common.{◌≡◌, ◌≤◌, drop}
 use Rattle.std.specs.List.{list_all}
 use Rattle.schedule_log.specs.Schedule.{is_digit, number_after}
-use Rattle.schedule_log.proofs.schedule.read_count.Given as goal
+use Rattle.schedule_log.proofs.count.read_count.Given as goal
 
 abbrev pub invariant-loop-digit : goal.invariant-loop-digit
 invariant-loop-digit l = record {

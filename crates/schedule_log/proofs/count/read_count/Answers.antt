@@ -1,6 +1,6 @@
 use Rattle.std.proofs.Common.{◌+◌, ◌-◌, ◌*◌, drop, get_or, sym, arith}
 use Rattle.schedule_log.proofs.ScheduleLemmas.{count_of_too_many, number_after_above, number_next}
-use Rattle.schedule_log.proofs.schedule.read_count.Goals as goal
+use Rattle.schedule_log.proofs.count.read_count.Goals as goal
 
 pub returns-then-count-gt-MAX_COUNT : goal.returns-then-count-gt-MAX_COUNT
 returns-then-count-gt-MAX_COUNT c =
