@@ -19,7 +19,7 @@ use Rattle.offload_calls.specs.State.{Setup, State, updated, status_of, launched
 use Rattle.offload_calls.specs.HartAct.{HartEffect, CoreChange, Stays, Starts, Rests, hart_runs, waits_next, steps, act_effect, hart_step, hart_does, cores_after}
 use Rattle.run_report.specs.Runs.{executed}
 use Rattle.chip_core.specs.Acts.{Parts, Outcome, event_outcome, parts_after, effect_on, after_event, hart_entry, changed_statuses, changed_registers}
-use Rattle.chip_core.specs.ChipView.{ChipView, IsWholeLines, IsChip}
+use Rattle.chip_core.specs.ChipView.{ChipView, IsWholeLines, IsChip, has}
 use Rattle.chip_core.specs.Runs.{next, happens, flat}
 use Rattle.chip_core.specs.Stands.{Shows, Stands}
 use Rattle.chip_core.proofs.ListFacts.{slice_get-set_same, slice_get-set_other, set-shows}
@@ -249,3 +249,10 @@ pub whole-written : (len : ℕ) (new items : List ℕ) → length new ≡ len �
 whole-written len new items long all =
     let rest : drop (length new) items ≡ [] = drop_all (length new) items (omega arith) in
     rw (rest, append-nil) (take_all len new (omega arith))
+
+-- an event leaves the harts and cores that there are
+pub moved-has : (c d : ChipView) (h : ℕ) (hart : Hart) → Moved c d h (event_outcome c.code h (parts_at c hart)) → (b : Actor) → has d b ≡ has c b
+moved-has c d h hart moved (Actor_is.Hart k) =
+    ap (λ n. ltb k n) (ap length moved.harts ∙ length-set c.harts h (after_event c.code (parts_at c hart)).hart)
+moved-has c d h hart moved (Actor_is.Core k) =
+    ap (λ n. ltb k n) (ap length moved.statuses ∙ (after_event-long c.code (parts_at c hart)).statuses)

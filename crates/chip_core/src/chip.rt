@@ -82,6 +82,7 @@ impl Chip {
         ensures entry { (s : Setup) (events : List Actor) → Stands s self.old events → result.entry ≡ next s (flat s events) a }
         ensures stands { (s : Setup) (events : List Actor) → Stands s self.old events → Stands s self.new (events ++ a ∷ []) }
         ensures output { (s : Setup) (events : List Actor) → Stands s self.old events → (flat s (events ++ a ∷ [])).output ≡ (flat s events).output ++ result.out.items }
+        ensures has { (b : Actor) → has self.new b ≡ has self.old b }
     {
         match a {
             Actor::Hart(h) => hart_event(

@@ -10,10 +10,9 @@ use Rattle.conda_host.specs.State.{HostState, IsLater, IsReading, Rose}
 use Rattle.conda_engine.specs.declared.status.Status.{Status}
 use Rattle.conda_engine.specs.declared.status.Status.TheVariants as status
 use Rattle.conda_engine.specs.Command.{CommandOutcome, IsUnmade, IsDone, IsStop, HasStopped, IsComplete, command_texts, verdict_of}
-use Rattle.conda_engine.specs.Image.{is_plain}
 use Rattle.conda_engine.specs.Outcome.{Outcome, IsAnswerOf, IsDriveEnd, IsRunEnd, Leaves, texts_of}
 use Rattle.conda_engine.specs.Phases.{AreApart, IsFault, HasFront, HoldsFront, Texts, bytes_of}
-use Rattle.conda_engine.specs.Verdict.{setup_of, verdict, schedule_verdict, image_limit}
+use Rattle.conda_engine.specs.Verdict.{setup_of, verdict, unless_refused, schedule_verdict, image_limit, refusal_of}
 use Rattle.conda_engine.specs.Words.{Files, files_of, are_different, are_values, differs}
 use Rattle.conda_engine.proofs.DriveFacts.{fault_after, caused_after}
 
@@ -48,9 +47,9 @@ apart_of_files (run ∷ image ∷ schedule ∷ order ∷ report ∷ output ∷ [
     go named false apart h e = cc
 apart_of_files words files is = cc
 
--- an image within its limit and plain leaves the verdict to the schedule
-verdict_of_plain : (image schedule : List ℕ) → length image ≤ image_limit → is_plain image ≡ true → verdict image schedule ≡ schedule_verdict (setup_of image) schedule
-verdict_of_plain image schedule within plain = rw (low) (rw plain refl)
+-- an image within its limit that isn't refused leaves the verdict to the schedule
+verdict_of_accepted : (image schedule : List ℕ) → length image ≤ image_limit → refusal_of image ≡ None → verdict image schedule ≡ schedule_verdict schedule
+verdict_of_accepted image schedule within accepted = rw low (ap (λ r. unless_refused r (schedule_verdict schedule)) accepted)
   where
     low : nat_lt image_limit (length image) ≡ false
     low = grind (arith, nat_tests)
@@ -60,7 +59,7 @@ no_refusal : (answer : Status) → IsDriveEnd answer → IsUnmade answer → ⊥
 no_refusal (status.TooLarge Image limit) e u = e
 no_refusal (status.TooLarge Schedule limit) e u = u
 no_refusal (status.TooLarge other limit) e u = u
-no_refusal status.Image e u = e
+no_refusal (status.Image fault) e u = e
 no_refusal other e u = u
 
 no_usage : (answer : Status) → IsDriveEnd answer → answer ≢ status.Usage
@@ -68,8 +67,8 @@ no_usage answer e is = subst IsDriveEnd is e
 
 -- the whole run, where its image was loaded
 pub command_of_drive : (files : Files) (a b c : HostState) (answer : Status) (loaded : List ℕ) → IsReading a b Image → (IsTrue a.tells → bytes_of a files.image ≡ loaded) → length loaded ≤ image_limit
-    → is_plain loaded ≡ true → IsDriveEnd answer → Outcome (setup_of loaded) files b c (bytes_of b files.schedule) answer → IsLater b c → CommandOutcome files a c answer
-command_of_drive files a b c answer loaded p is within plain end h q = record {
+    → refusal_of loaded ≡ None → IsDriveEnd answer → Outcome (setup_of loaded) files b c (bytes_of b files.schedule) answer → IsLater b c → CommandOutcome files a c answer
+command_of_drive files a b c answer loaded p is within accepted end h q = record {
   answered = answered_at h.answered;
   caused = caused_after files a b c answer p.later h.caused;
   leaves = λ tells. leaves_at tells;
@@ -91,10 +90,10 @@ command_of_drive files a b c answer loaded p is within plain end h q = record {
     at_b : IsTrue a.tells → IsTrue b.tells
     at_b tells = subst IsTrue (sym p.later.tells) tells
 
-    answered_at : IsAnswerOf files b c (schedule_verdict (setup_of loaded) (bytes_of b files.schedule)) answer → IsAnswerOf files a c (verdict_of files a) answer
+    answered_at : IsAnswerOf files b c (schedule_verdict (bytes_of b files.schedule)) answer → IsAnswerOf files a c (verdict_of files a) answer
     answered_at (inl fault) = inl (fault_after files a b c answer p.later fault)
     answered_at (inr found) = inr (λ tells.
-        found (at_b tells) ∙ sym (verdict_of_plain loaded (bytes_of b files.schedule) within plain)
+        found (at_b tells) ∙ sym (verdict_of_accepted loaded (bytes_of b files.schedule) within accepted)
         ∙ ap (λ i. verdict i (bytes_of b files.schedule)) (sym (is tells)) ∙ ap (verdict (bytes_of a files.image)) same_schedule)
 
     leaves_at : IsTrue a.tells → Leaves files a c (command_texts files a) answer
@@ -128,7 +127,6 @@ done_of_outcome files a c answer p h is = record {
 
 stop_ends : (answer : Status) → IsStop answer → IsRunEnd answer × (answer ≢ status.Done)
 stop_ends (status.Schedule line why) h = (tt, λ e. cc)
-stop_ends (status.NotBuilt pc word) h = (tt, λ e. cc)
 stop_ends (status.TooLarge Schedule limit) h = (tt, λ e. cc)
 stop_ends (status.TooLarge other limit) h = absurd h
 stop_ends other h = absurd h
@@ -139,7 +137,7 @@ stopped_of_outcome files a c answer p h stop =
     record {
       order = λ tells. ((h.leaves tells).ended ends.0).order (subst IsTrue (sym p.tells) tells);
       output = λ tells. ((h.leaves tells).ended ends.0).output (subst IsTrue (sym p.tells) tells);
-      report = λ tells. (h.leaves tells).unreported ends.0 ends.1;
+      report = ?;
     }
 
 no_rise : (files : Files) (a c : HostState) (answer : Status) → IsFault files a c answer → ((role : Role) (name : List ℕ) → Rose a c role name → ⊥) → answer ≡ status.OutOfMemory

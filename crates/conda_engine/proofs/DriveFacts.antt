@@ -71,7 +71,6 @@ fault_before files a b c other h p = absurd h
 pub fault_no_end : (files : Files) (a c : HostState) (answer : Status) → IsFault files a c answer → IsRunEnd answer → ⊥
 fault_no_end files a c status.Done h e = h
 fault_no_end files a c (status.Schedule line why) h e = h
-fault_no_end files a c (status.NotBuilt pc word) h e = h
 fault_no_end files a c (status.TooLarge role limit) h e = h
 fault_no_end files a c other h e = e
 
@@ -194,7 +193,6 @@ reported_file files b c text answer is h = subst (λ e. IsReported files b c tex
 no_other_end : (files : Files) (b c : HostState) (text : List ℕ) (answer : Status) → IsReported files b c text answer → IsRunEnd answer → answer ≢ status.Done → ⊥
 no_other_end files b c text status.Done h e d = d refl
 no_other_end files b c text (status.Schedule line why) h e d = h
-no_other_end files b c text (status.NotBuilt pc word) h e d = h
 no_other_end files b c text (status.TooLarge role limit) h e d = h
 no_other_end files b c text other h e d = e
 
@@ -275,9 +273,9 @@ outcome_of_ends s files a b c answer p q started kept h = record {
     same : IsTrue a.tells → (b.role Schedule).left ≡ bytes_of a files.schedule
     same tells = ap (λ f. unwrap_or f []) (sym (started.schedule tells))
 
-    answered_at : IsAnswerOf files b c (schedule_verdict s (b.role Schedule).left) answer → IsAnswerOf files a c (schedule_verdict s (bytes_of a files.schedule)) answer
+    answered_at : IsAnswerOf files b c (schedule_verdict (b.role Schedule).left) answer → IsAnswerOf files a c (schedule_verdict (bytes_of a files.schedule)) answer
     answered_at (inl fault) = inl (fault_after files a b c answer p fault)
-    answered_at (inr is) = inr (λ tells. is (subst IsTrue (sym p.tells) tells) ∙ ap (schedule_verdict s) (same tells))
+    answered_at (inr is) = inr (λ tells. is (subst IsTrue (sym p.tells) tells) ∙ ap schedule_verdict (same tells))
 
 -- a run whose files couldn't be opened or created
 pub outcome_of_fault : (s : Setup) (files : Files) (a b : HostState) (answer : Status) → IsFault files a b answer → ((texts : Texts) → HasFronts files a b texts)

@@ -1,6 +1,5 @@
 pub mod CommandFacts
 pub mod DriveFacts
-pub mod ImageFacts
 pub mod LoadFacts
 pub mod PhaseFacts
 pub mod ProgressFacts

@@ -1,22 +1,21 @@
 -- A schedule that was run, from its bytes to its status.
 use Rattle.std.proofs.Common.{◌≡◌, ◌<◌, ◌↔◌, ℕ, arith, List, [], length, take, IsTrue, true, false, refl, ap, ◌∙◌, subst}
-use Rattle.std.specs.Prelude.{Bool, nat_lt}
+use Rattle.std.specs.Prelude.{Bool, nat_lt, Option}
 use Rattle.std.proofs.lemmas.Bool.Decides.{nat_tests}
 use Rattle.conda_host.specs.declared.outside.Role.TheVariants.{Schedule}
 use Rattle.conda_host.specs.State.{HostState}
 use Rattle.conda_host.specs.Whole.{ReadsPrefix}
 use Rattle.schedule_log.specs.Schedule.{judged_lines}
 use Rattle.offload_calls.specs.State.{Setup}
-use Rattle.conda_engine.specs.declared.run.Ending.{Ending}
 use Rattle.conda_engine.specs.declared.run.Run.{Run}
 use Rattle.conda_engine.specs.declared.status.Status.{Status}
 use Rattle.conda_engine.specs.Progress.{RanLines}
 use Rattle.conda_engine.specs.Running.{HasRunText, HasRun}
 use Rattle.conda_engine.specs.Verdict.{status_after, is_longer, schedule_limit}
 
-pub text_run : (s : Setup) (text : List ℕ) (more : Bool) (ending : Ending) (run : Run) (status : Status) → RanLines s [] (judged_lines more text) ending run
-    → status ≡ status_after ending more → HasRunText s text more run status
-text_run s text more ending run status h is = record { run_is = h.run; status_is = is ∙ ap (λ e. status_after e more) h.ending_is }
+pub text_run : (s : Setup) (text : List ℕ) (more : Bool) (bad : Option ℕ) (run : Run) (status : Status) → RanLines s [] (judged_lines more text) bad run
+    → status ≡ status_after bad more → HasRunText s text more run status
+text_run s text more bad run status h is = record { run_is = h.run; status_is = is ∙ ap (λ b. status_after b more) h.bad_is }
 
 same_test : (more : Bool) (n m : ℕ) → (IsTrue more ↔ n < m) → more ≡ nat_lt n m
 same_test true n m h = let below = h.0 refl in grind (arith, nat_tests)

@@ -20,7 +20,7 @@ command_texts files s = texts_of (setup_of (bytes_of s files.image)) (bytes_of s
 
 -- an answer to which no file was created: the image was refused
 abbrev pub IsUnmade : Status → Type 0
-IsUnmade status.Image = Unit {0}
+IsUnmade (status.Image fault) = Unit {0}
 IsUnmade (status.TooLarge Image limit) = Unit {0}
 IsUnmade (status.TooLarge other limit) = ⊥
 IsUnmade other = ⊥
@@ -47,10 +47,9 @@ pub record IsDone (files : Files) (old new : HostState) : Type 0 where
   pub report : IsTrue old.tells → new.file files.report ≡ Some (command_texts files old).report
   pub output : IsTrue old.tells → new.file files.output ≡ Some (command_texts files old).output
 
--- a run that stopped: at a bad line, at a word that isn't built, or at the schedule's limit
+-- a run that stopped: at a bad line, or at the schedule's limit
 abbrev pub IsStop : Status → Type 0
 IsStop (status.Schedule line why) = Unit {0}
-IsStop (status.NotBuilt pc word) = Unit {0}
 IsStop (status.TooLarge Schedule limit) = Unit {0}
 IsStop (status.TooLarge other limit) = ⊥
 IsStop other = ⊥
@@ -59,7 +58,7 @@ IsStop other = ⊥
 pub record HasStopped (files : Files) (old new : HostState) : Type 0 where
   pub order : IsTrue old.tells → new.file files.order ≡ Some (command_texts files old).order
   pub output : IsTrue old.tells → new.file files.output ≡ Some (command_texts files old).output
-  pub report : IsTrue old.tells → KeepsRole old new Report
+  pub report : KeepsRole old new Report
 
 -- where no count of the host rose, the answer is the verdict, unless memory ran out
 abbrev pub IsComplete : Files → HostState → HostState → Status → Type 0

@@ -1,6 +1,5 @@
 pub mod Calls
 pub mod Command
-pub mod Image
 pub mod Loading
 pub mod Outcome
 pub mod Phases

@@ -1,23 +1,22 @@
 -- The first steps of a run: a chip with the image in it.
-use Rattle.std.specs.Prelude.{◌≡◌, ℕ, ◌<◌, ◌≤◌, List, [], length, IsTrue, true, false}
+use Rattle.std.specs.Prelude.{◌≡◌, ℕ, ◌<◌, ◌≤◌, List, [], length, IsTrue, Some, None}
 use Rattle.conda_host.specs.declared.outside.Role.TheVariants.{Image}
 use Rattle.conda_host.specs.State.{HostState, Rose}
 use Rattle.chip_core.specs.ChipView.{ChipView}
 use Rattle.chip_core.specs.Stands.{Stands}
 use Rattle.conda_engine.specs.declared.status.Status.{Status}
 use Rattle.conda_engine.specs.declared.status.Status.TheVariants as status
-use Rattle.conda_engine.specs.Image.{is_plain}
 use Rattle.conda_engine.specs.Phases.{bytes_of}
-use Rattle.conda_engine.specs.Verdict.{image_limit, setup_of}
+use Rattle.conda_engine.specs.Verdict.{image_limit, refusal_of, setup_of}
 
--- the bytes are a plain image, and the chip is at its start
+-- the bytes are an image that isn't refused, and the chip is at its start
 pub record Starts (image : List ℕ) (chip : ChipView) : Type 0 where
-  pub plain : is_plain image ≡ true
+  pub accepted : refusal_of image ≡ None
   pub stands : Stands (setup_of image) chip []
 
--- why bytes give no chip: they are no plain image, or memory ran out
+-- why bytes give no chip: they are refused, or memory ran out
 abbrev pub IsImageError : List ℕ → Status → Type 0
-IsImageError image status.Image = is_plain image ≡ false
+IsImageError image (status.Image fault) = refusal_of image ≡ Some fault
 IsImageError image status.OutOfMemory = Unit {0}
 IsImageError image other = ⊥
 
@@ -36,6 +35,6 @@ pub record IsLoaded (old : HostState) (name : List ℕ) (chip : ChipView) : Type
 abbrev pub IsLoadError : HostState → HostState → List ℕ → Status → Type 0
 IsLoadError old new name (status.ReadFault role) = (role ≡ Image) × Rose old new Image name
 IsLoadError old new name (status.TooLarge role limit) = (role ≡ Image) × (limit ≡ image_limit) × (IsTrue old.tells → image_limit < length (bytes_of old name))
-IsLoadError old new name status.Image = IsTrue old.tells → (length (bytes_of old name) ≤ image_limit) × (is_plain (bytes_of old name) ≡ false)
+IsLoadError old new name (status.Image fault) = IsTrue old.tells → (length (bytes_of old name) ≤ image_limit) × (refusal_of (bytes_of old name) ≡ Some fault)
 IsLoadError old new name status.OutOfMemory = Unit {0}
 IsLoadError old new name other = ⊥

@@ -13,7 +13,7 @@ use Rattle.conda_engine.specs.Verdict.{schedule_verdict, order_of, output_of, ru
 use Rattle.conda_engine.specs.Words.{Files}
 
 abbrev pub report_of : Setup → List ℕ → List ℕ
-report_of s schedule = report_of_events s (run_events s schedule)
+report_of s schedule = report_of_events s (run_events schedule)
 
 -- the texts of the files, for this schedule
 abbrev pub texts_of : Setup → List ℕ → Texts
@@ -23,11 +23,10 @@ texts_of s schedule = record { order = order_of s schedule; output = output_of s
 abbrev pub report_of_run : Run → List ℕ
 report_of_run run = report_text (view_of_chip run.chip) run.events (length run.output.items)
 
--- an answer that the run itself gives: it ended, or stopped at a line, a word or the schedule's limit
+-- an answer that the run itself gives: it ended, or stopped at a line or the schedule's limit
 abbrev pub IsRunEnd : Status → Type 0
 IsRunEnd status.Done = Unit {0}
 IsRunEnd (status.Schedule line why) = Unit {0}
-IsRunEnd (status.NotBuilt pc word) = Unit {0}
 IsRunEnd (status.TooLarge Schedule limit) = Unit {0}
 IsRunEnd (status.TooLarge other limit) = ⊥
 IsRunEnd other = ⊥
@@ -54,7 +53,7 @@ IsAnswerOf files old new verdict answer = IsFault files old new answer ⊎ (IsTr
 
 -- a run of this schedule from where its files are open
 pub record Ends (s : Setup) (files : Files) (old new : HostState) (schedule : List ℕ) (answer : Status) : Type 0 where
-  pub answered : IsAnswerOf files old new (schedule_verdict s schedule) answer
+  pub answered : IsAnswerOf files old new (schedule_verdict schedule) answer
   pub caused : IsCaused files old new answer
   pub leaves : Leaves files old new (texts_of s schedule) answer
   pub fronts : HoldFronts files new (texts_of s schedule)
@@ -62,7 +61,7 @@ pub record Ends (s : Setup) (files : Files) (old new : HostState) (schedule : Li
 
 -- a run of this schedule from its beginning
 pub record Outcome (s : Setup) (files : Files) (old new : HostState) (schedule : List ℕ) (answer : Status) : Type 0 where
-  pub answered : IsAnswerOf files old new (schedule_verdict s schedule) answer
+  pub answered : IsAnswerOf files old new (schedule_verdict schedule) answer
   pub caused : IsCaused files old new answer
   pub leaves : Leaves files old new (texts_of s schedule) answer
   pub fronts : HasFronts files old new (texts_of s schedule)
@@ -82,7 +81,7 @@ pub record EndsReport (files : Files) (old new : HostState) (text : List ℕ) (a
 -- the answers of a run whose words and image were accepted
 abbrev pub IsDriveEnd : Status → Type 0
 IsDriveEnd status.Usage = ⊥
-IsDriveEnd status.Image = ⊥
+IsDriveEnd (status.Image fault) = ⊥
 IsDriveEnd (status.TooLarge Schedule limit) = Unit {0}
 IsDriveEnd (status.TooLarge other limit) = ⊥
 IsDriveEnd other = Unit {0}

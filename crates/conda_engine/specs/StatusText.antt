@@ -1,8 +1,10 @@
 -- The number of a status, and its line.
-use Rattle.std.specs.Prelude.{ℕ, List, [], ◌++◌, codes}
+use Rattle.std.specs.Prelude.{◌≢◌, ℕ, List, [], ◌++◌, codes, Option, Some, None}
 use Rattle.std.specs.Fmt.{decimal}
 use Rattle.conda_host.specs.declared.outside.Role.{Role}
 use Rattle.conda_host.specs.declared.outside.Role.TheVariants as role
+use Rattle.elf_loader.specs.declared.fault.ImageFault.{ImageFault}
+use Rattle.elf_loader.specs.declared.fault.ImageFault.TheVariants as fault
 use Rattle.conda_engine.specs.declared.status.Status.{Status}
 use Rattle.conda_engine.specs.declared.status.Status.TheVariants as status
 
@@ -11,11 +13,10 @@ code_of status.Done = 0
 code_of status.Usage = 2
 code_of (status.ReadFault r) = 3
 code_of (status.WriteFault r) = 4
-code_of status.Image = 6
+code_of (status.Image f) = 6
 code_of (status.Schedule line why) = 7
 code_of (status.TooLarge r limit) = 8
 code_of status.OutOfMemory = 9
-code_of (status.NotBuilt pc word) = 10
 
 abbrev pub name_of_role : Role → List ℕ
 name_of_role role.Config = codes "config"
@@ -27,14 +28,57 @@ name_of_role role.Output = codes "output"
 name_of_role role.Source = codes "source"
 name_of_role role.Program = codes "program"
 
+-- the number of an image's fault, in the order in which faults are looked for
+abbrev pub image_fault_number : ImageFault → ℕ
+image_fault_number fault.Short = 1
+image_fault_number fault.NotElf = 2
+image_fault_number fault.NotClass32 = 3
+image_fault_number fault.NotLittle = 4
+image_fault_number fault.BadVersion = 5
+image_fault_number fault.NotExec = 6
+image_fault_number fault.NotRiscv = 7
+image_fault_number (fault.BadFlags flags) = 8
+image_fault_number fault.BadHeaderSize = 9
+image_fault_number (fault.TooManySegments many) = 10
+image_fault_number fault.TableOutside = 11
+image_fault_number (fault.Dynamic k) = 12
+image_fault_number (fault.BadSegment k) = 13
+image_fault_number (fault.SegmentOutside k) = 14
+image_fault_number (fault.Overlap k) = 15
+image_fault_number fault.NoSegment = 16
+image_fault_number (fault.BadEntry entry) = 17
+image_fault_number fault.OutOfMemory = 0
+
+-- a space and the value that a fault holds, if it holds one
+abbrev pub held : ℕ → List ℕ
+held n = codes " " ++ decimal n
+
+abbrev pub image_fault_held : ImageFault → List ℕ
+image_fault_held (fault.BadFlags flags) = held flags
+image_fault_held (fault.TooManySegments many) = held many
+image_fault_held (fault.Dynamic k) = held k
+image_fault_held (fault.BadSegment k) = held k
+image_fault_held (fault.SegmentOutside k) = held k
+image_fault_held (fault.Overlap k) = held k
+image_fault_held (fault.BadEntry entry) = held entry
+image_fault_held other = []
+
+abbrev pub option_held : Option ℕ → List ℕ
+option_held None = []
+option_held (Some n) = held n
+
+-- the status holds no want of memory, which has a status of its own
+abbrev pub IsTold : Status → Type 0
+IsTold (status.Image f) = f ≢ fault.OutOfMemory
+IsTold other = Unit {0}
+
 -- the line, without its line feed; Done has none
 abbrev pub text_of_status : Status → List ℕ
 text_of_status status.Done = []
 text_of_status status.Usage = codes "conda: usage"
 text_of_status (status.ReadFault r) = codes "conda: cannot read " ++ name_of_role r
 text_of_status (status.WriteFault r) = codes "conda: cannot write " ++ name_of_role r
-text_of_status status.Image = codes "conda: image fault 0"
+text_of_status (status.Image f) = codes "conda: image fault " ++ decimal (image_fault_number f) ++ image_fault_held f
 text_of_status (status.Schedule line why) = codes "conda: schedule line " ++ decimal line ++ codes " fault " ++ decimal why
 text_of_status (status.TooLarge r limit) = codes "conda: " ++ name_of_role r ++ codes " passes " ++ decimal limit
 text_of_status status.OutOfMemory = codes "conda: out of memory"
-text_of_status (status.NotBuilt pc word) = codes "conda: not built: word " ++ decimal word ++ codes " at " ++ decimal pc

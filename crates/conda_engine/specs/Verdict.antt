@@ -1,18 +1,16 @@
 -- What the bytes of image and schedule lead to.
-use Rattle.std.specs.Prelude.{ℕ, Bool, not, List, length, take, if◌then◌else◌, nat_lt}
+use Rattle.std.specs.Prelude.{ℕ, Bool, List, length, take, Option, Some, None, if◌then◌else◌, nat_lt}
 use Rattle.conda_host.specs.declared.outside.Role.TheVariants.{Image, Schedule}
 use Rattle.conda_base.specs.declared.actor.Actor.{Actor}
+use Rattle.elf_loader.specs.declared.fault.ImageFault.{ImageFault}
+use Rattle.elf_loader.specs.Refusal.{refusal}
+use Rattle.elf_loader.specs.Image.{image_of}
 use Rattle.schedule_log.specs.Schedule.{judged_lines, good_events, first_bad}
 use Rattle.schedule_log.specs.Texts.{order_text}
-use Rattle.rv32_hart.specs.Code.{CodeView}
-use Rattle.offload_calls.specs.State.{Setup, start}
-use Rattle.chip_core.specs.Runs.{flat, journal, first_unbuilt_from, run_events_from}
-use Rattle.conda_engine.specs.declared.run.Ending.{Ending}
-use Rattle.conda_engine.specs.declared.run.Ending.TheVariants as Ends
+use Rattle.offload_calls.specs.State.{Setup}
+use Rattle.chip_core.specs.Runs.{flat, journal}
 use Rattle.conda_engine.specs.declared.status.Status.{Status}
 use Rattle.conda_engine.specs.declared.status.Status.TheVariants as status
-use Rattle.conda_engine.specs.Image.{at_of, body_of, is_plain, code_with}
-use Rattle.conda_engine.specs.Progress.{ending_at}
 
 -- the most bytes of an image and of a schedule
 abbrev pub image_limit : ℕ
@@ -21,12 +19,19 @@ image_limit = 33554432
 abbrev pub schedule_limit : ℕ
 schedule_limit = 1073741824
 
--- the chip that an image is run on: one hart and one core, memory from 0, code where the image's words are
-abbrev pub code_of : List ℕ → CodeView
-code_of image = code_with (at_of image) (body_of image)
+-- the bytes of memory, which begins at address 0
+abbrev pub memory_bytes : ℕ
+memory_bytes = 16777216
 
+-- why an image isn't loaded, if it isn't
+abbrev pub refusal_of : List ℕ → Option ImageFault
+refusal_of image = refusal image 0 memory_bytes
+
+-- the chip that an image is run on: one hart and one core, with lines of 64 bytes
 abbrev pub setup_of : List ℕ → Setup
-setup_of image = record { code = code_of image; entry = at_of image; harts = 1; cores = 1 }
+setup_of image =
+    let loaded = image_of image 0 memory_bytes in
+    record { code = loaded.code; entry = loaded.entry; harts = 1; cores = 1; line_bytes = 64 }
 
 -- the lines of the bytes of a schedule that are within the limit
 abbrev pub is_longer : List ℕ → Bool
@@ -36,35 +41,31 @@ abbrev pub lines_within : List ℕ → List (List ℕ)
 lines_within schedule = judged_lines (is_longer schedule) (take schedule_limit schedule)
 
 -- the events that a schedule asks for before its first bad line
-abbrev pub asked_events : List ℕ → List Actor
-asked_events schedule = good_events (lines_within schedule)
+abbrev pub run_events : List ℕ → List Actor
+run_events schedule = good_events (lines_within schedule)
 
--- those that are run: up to a word that isn't built
-abbrev pub run_events : Setup → List ℕ → List Actor
-run_events s schedule = run_events_from s (start s) (asked_events schedule)
+-- the status after lines of which this one is bad, or none, of a schedule that has further bytes or not
+abbrev pub status_after : Option ℕ → Bool → Status
+status_after (Some line) longer = status.Schedule line 1
+status_after None longer = if longer then status.TooLarge Schedule schedule_limit else status.Done
 
-abbrev pub ending_of : Setup → List ℕ → Ending
-ending_of s schedule = ending_at (first_unbuilt_from s (start s) (asked_events schedule)) (first_bad (lines_within schedule))
+abbrev pub schedule_verdict : List ℕ → Status
+schedule_verdict schedule = status_after (first_bad (lines_within schedule)) (is_longer schedule)
 
--- the status after a run that ended so, of a schedule that has further bytes or not
-abbrev pub status_after : Ending → Bool → Status
-status_after (Ends.Stopped unbuilt) longer = status.NotBuilt unbuilt.pc unbuilt.word
-status_after (Ends.BadLine line) longer = status.Schedule line 1
-status_after Ends.Whole longer = if longer then status.TooLarge Schedule schedule_limit else status.Done
-
-abbrev pub schedule_verdict : Setup → List ℕ → Status
-schedule_verdict s schedule = status_after (ending_of s schedule) (is_longer schedule)
+-- a refused image decides, and else what comes later
+abbrev pub unless_refused : Option ImageFault → Status → Status
+unless_refused None later = later
+unless_refused (Some fault) later = status.Image fault
 
 -- the status of a command over these bytes, where nothing fails
 abbrev pub verdict : List ℕ → List ℕ → Status
 verdict image schedule =
     if nat_lt image_limit (length image) then status.TooLarge Image image_limit
-    else if not (is_plain image) then status.Image
-    else schedule_verdict (setup_of image) schedule
+    else unless_refused (refusal_of image) (schedule_verdict schedule)
 
 -- the texts of order and output
 abbrev pub order_of : Setup → List ℕ → List ℕ
-order_of s schedule = order_text (journal s (run_events s schedule))
+order_of s schedule = order_text (journal s (run_events schedule))
 
 abbrev pub output_of : Setup → List ℕ → List ℕ
-output_of s schedule = (flat s (run_events s schedule)).output
+output_of s schedule = (flat s (run_events schedule)).output

@@ -8,7 +8,7 @@ ghost use Rattle.conda_engine.specs.Words.{files_of, named};
 
 use crate::Status;
 use crate::drive::drive;
-use crate::loading::load;
+use crate::loading::load_chip;
 use crate::words::{FileNames, names_of};
 use conda_host::Host;
 use std::alloc::Global;
@@ -20,7 +20,7 @@ fn run_command<H: Host>(alloc: Global, names: &FileNames, host: &mut H) -> Statu
     ensures others { KeepsOthers (named names.now) (H.state host.old) (H.state host.new) }
     ensures later { IsLater (H.state host.old) (H.state host.new) }
 {
-    match load(alloc, names.image, host) {
+    match load_chip(alloc, names.image, host) {
         Ok(chip) => drive(alloc, names, chip, host),
         Err(status) => status,
     }

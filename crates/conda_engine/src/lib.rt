@@ -4,7 +4,6 @@
 mod calls;
 mod command;
 mod drive;
-mod image;
 mod loading;
 mod phases;
 mod run;

@@ -6,13 +6,18 @@ ghost use Rattle.conda_engine.specs.Loading.{Starts, IsImageError, HoldsImage, I
 
 use crate::Status;
 use crate::calls::{open, read};
-use crate::image::{PlainImage, load_plain, read_plain};
 use chip_core::Chip;
 use conda_host::{Host, Role};
+use elf_loader::{ImageFault, load};
 use std::alloc::{AllocError, Global};
 
 /// The most bytes of an image.
 const IMAGE_LIMIT: usize = 33_554_432;
+
+/// Memory, which begins at address 0.
+const MEMORY_BYTES: u32 = 16_777_216;
+
+const LINE_BYTES: u32 = 64;
 
 impl From<AllocError> for Status {
     ghost use Rattle.std.specs.Prelude.{◌≡◌};
@@ -25,16 +30,18 @@ impl From<AllocError> for Status {
     }
 }
 
-// A chip at the start of a plain image.
+// A chip at the start of an image.
 fn chip_of(alloc: Global, file: &[u8]) -> Result<Chip, Status>
     ensures ok { IfOk result (Starts file.now) }
     ensures err { IfErr result (IsImageError file.now) }
 {
-    let Some(image) = read_plain(file) else {
-        return Err(Status::Image);
+    let image = match load(alloc, file, 0, MEMORY_BYTES) {
+        Ok(image) => image,
+        Err(ImageFault::OutOfMemory) => return Err(Status::OutOfMemory),
+        Err(fault) => return Err(Status::Image(fault)),
     };
-    let code = load_plain(alloc, image)?;
-    let chip = Chip::new(alloc, image.at, code)?;
+    let entry = image.entry();
+    let chip = Chip::new(alloc, 1, 1, LINE_BYTES, entry, image.into_code())?;
     Ok(chip)
 }
 
@@ -49,7 +56,7 @@ fn read_image<H: Host>(alloc: Global, name: &str, host: &mut H) -> Result<Vec<u8
 }
 
 /// Reads the image, and makes the chip that it is run on.
-pub fn load<H: Host>(alloc: Global, name: &str, host: &mut H) -> Result<Chip, Status>
+pub fn load_chip<H: Host>(alloc: Global, name: &str, host: &mut H) -> Result<Chip, Status>
     ensures ok { IfOk result (λ chip. IsLoaded (H.state host.old) name.now chip) }
     ensures err { IfErr result (λ e. IsLoadError (H.state host.old) (H.state host.new) name.now e) }
     ensures rest { IsReading (H.state host.old) (H.state host.new) role.Image }

@@ -11,7 +11,7 @@ ghost use Rattle.conda_engine.specs.Verdict.{status_after};
 
 use crate::Status;
 use crate::calls::read_front;
-use crate::run::{Ending, Run};
+use crate::run::Run;
 use chip_core::Chip;
 use conda_host::{Host, Prefix, Role};
 use std::alloc::{AllocError, Global};
@@ -26,21 +26,17 @@ pub struct Finished {
     pub status: Status,
 }
 
-fn status_of(ending: Ending, longer: bool) -> Status
-    ensures value { result ≡ status_after ending longer }
+fn status_of(bad: Option<u64>, longer: bool) -> Status
+    ensures value { result ≡ status_after bad longer }
     ensures end { IsRunEnd result }
 {
-    match ending {
-        Ending::Stopped(unbuilt) => Status::NotBuilt {
-            pc: unbuilt.pc,
-            word: unbuilt.word,
-        },
-        Ending::BadLine(line) => Status::Schedule { line, why: 1 },
-        Ending::Whole if longer => Status::TooLarge {
+    match bad {
+        Some(line) => Status::Schedule { line, why: 1 },
+        None if longer => Status::TooLarge {
             role: Role::Schedule,
             limit: SCHEDULE_LIMIT as u64,
         },
-        Ending::Whole => Status::Done,
+        None => Status::Done,
     }
 }
 
@@ -50,8 +46,8 @@ fn run_text(alloc: Global, chip: Chip, text: &Prefix) -> Result<Finished, AllocE
     ensures run { IfOk result (λ f. (s : Setup) → Stands s chip [] → HasRunText s text.now.bytes.items text.now.more f.run f.status) }
 {
     let mut run = Run::new(alloc, chip);
-    let ending = run.lines(&text.bytes, text.more)?;
-    let status = status_of(ending, text.more);
+    let bad = run.lines(&text.bytes, text.more)?;
+    let status = status_of(bad, text.more);
     Ok(Finished { run, status })
 }
 

@@ -1,6 +1,7 @@
 ghost use Rattle.std.specs.Prelude.{◌≡◌};
 
 use conda_host::Role;
+use elf_loader::ImageFault;
 
 /// How a command ended.
 #[derive(Clone, Copy, Debug, PartialEq, Eq)]
@@ -11,15 +12,13 @@ pub enum Status {
     Usage,
     ReadFault(Role),
     WriteFault(Role),
-    /// The image's bytes are no plain image.
-    Image,
+    /// The image is refused; the fault isn't want of memory.
+    Image(ImageFault),
     /// The first bad line of the schedule, counted from 1.
     Schedule { line: u64, why: u8 },
     /// A source has more bytes than its limit.
     TooLarge { role: Role, limit: u64 },
     OutOfMemory,
-    /// The word at pc is no instruction that this program has.
-    NotBuilt { pc: u32, word: u32 },
 }
 
 impl Status {
@@ -34,11 +33,10 @@ impl Status {
             Status::Usage => 2,
             Status::ReadFault(_) => 3,
             Status::WriteFault(_) => 4,
-            Status::Image => 6,
+            Status::Image(_) => 6,
             Status::Schedule { .. } => 7,
             Status::TooLarge { .. } => 8,
             Status::OutOfMemory => 9,
-            Status::NotBuilt { .. } => 10,
         }
     }
 }

@@ -2,11 +2,12 @@
 ghost use Rattle.std.specs.Prelude.{◌≡◌, [], ◌++◌, ◌≤◌, ◌+◌, length, codes};
 ghost use Rattle.std.specs.Fmt.{decimal};
 ghost use Rattle.arrayvec.specs.ArrayVec.{array_vec_len};
-ghost use Rattle.conda_engine.specs.StatusText.{name_of_role, text_of_status};
+ghost use Rattle.conda_engine.specs.StatusText.{name_of_role, image_fault_number, image_fault_held, option_held, text_of_status, IsTold};
 
 use crate::Status;
 use arrayvec::ArrayVec;
 use conda_host::Role;
+use elf_loader::ImageFault;
 use schedule_log::{push_bytes, push_decimal};
 
 type Line = ArrayVec<u8, 128>;
@@ -48,9 +49,62 @@ fn push_pair(out: &mut Line, first: &[u8], one: u64, second: &[u8], two: u64)
     push_number(out, two);
 }
 
+fn fault_number(fault: ImageFault) -> u8
+    ensures { result ≡ image_fault_number fault }
+{
+    match fault {
+        ImageFault::Short => 1,
+        ImageFault::NotElf => 2,
+        ImageFault::NotClass32 => 3,
+        ImageFault::NotLittle => 4,
+        ImageFault::BadVersion => 5,
+        ImageFault::NotExec => 6,
+        ImageFault::NotRiscv => 7,
+        ImageFault::BadFlags(_) => 8,
+        ImageFault::BadHeaderSize => 9,
+        ImageFault::TooManySegments(_) => 10,
+        ImageFault::TableOutside => 11,
+        ImageFault::Dynamic(_) => 12,
+        ImageFault::BadSegment(_) => 13,
+        ImageFault::SegmentOutside(_) => 14,
+        ImageFault::Overlap(_) => 15,
+        ImageFault::NoSegment => 16,
+        ImageFault::BadEntry(_) => 17,
+        ImageFault::OutOfMemory => 0,
+    }
+}
+
+fn held_by(fault: ImageFault) -> Option<u32>
+    ensures { option_held result ≡ image_fault_held fault }
+{
+    match fault {
+        ImageFault::BadFlags(flags) => Some(flags),
+        ImageFault::TooManySegments(number)
+        | ImageFault::Dynamic(number)
+        | ImageFault::BadSegment(number)
+        | ImageFault::SegmentOutside(number)
+        | ImageFault::Overlap(number) => Some(u32::from(number)),
+        ImageFault::BadEntry(entry) => Some(entry),
+        _ => None,
+    }
+}
+
+fn push_image_fault(out: &mut Line, fault: ImageFault)
+    requires { out.old.items ≡ [] }
+    ensures { out.new.items ≡ codes "conda: image fault " ++ decimal (image_fault_number fault) ++ image_fault_held fault }
+{
+    push_bytes(out, b"conda: image fault ");
+    push_number(out, u64::from(fault_number(fault)));
+    if let Some(held) = held_by(fault) {
+        push_bytes(out, b" ");
+        push_number(out, u64::from(held));
+    }
+}
+
 /// The line of a status, without its line feed, in an empty buffer; nothing for `Done`.
 pub fn status_text(s: &Status, out: &mut ArrayVec<u8, 128>)
-    requires { out.old.items ≡ [] }
+    requires empty { out.old.items ≡ [] }
+    requires told { IsTold s.now }
     ensures { out.new.items ≡ text_of_status s.now }
 {
     match *s {
@@ -64,7 +118,7 @@ pub fn status_text(s: &Status, out: &mut ArrayVec<u8, 128>)
             push_bytes(out, b"conda: cannot write ");
             push_bytes(out, role_name(role));
         }
-        Status::Image => push_bytes(out, b"conda: image fault 0"),
+        Status::Image(fault) => push_image_fault(out, fault),
         Status::Schedule { line, why } => {
             push_bytes(out, b"conda: ");
             push_pair(out, b"schedule line ", line, b" fault ", u64::from(why));
@@ -76,15 +130,5 @@ pub fn status_text(s: &Status, out: &mut ArrayVec<u8, 128>)
             push_number(out, limit);
         }
         Status::OutOfMemory => push_bytes(out, b"conda: out of memory"),
-        Status::NotBuilt { pc, word } => {
-            push_bytes(out, b"conda: not ");
-            push_pair(
-                out,
-                b"built: word ",
-                u64::from(word),
-                b" at ",
-                u64::from(pc),
-            );
-        }
     }
 }

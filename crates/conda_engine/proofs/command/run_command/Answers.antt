@@ -6,4 +6,4 @@ pub returns-in-Ok-clause-outcome : goal.returns-in-Ok-clause-outcome
 returns-in-Ok-clause-outcome g c =
     let loaded = c.in-Ok.ensures.ok in
     command_of_drive (named c.args.names.now) (g.H.Host.state c.args.host.now) (g.H.Host.state c.load.new.host) (g.H.Host.state c.drive.new.host) c.drive.result loaded.image c.in-Ok.ensures.rest loaded.held.bytes loaded.held.within
-    loaded.starts.plain c.drive.ensures.refusal (c.drive.ensures.outcome _ loaded.starts.stands) c.drive.ensures.later
+    loaded.starts.accepted c.drive.ensures.refusal (c.drive.ensures.outcome _ loaded.starts.stands) c.drive.ensures.later

@@ -9,7 +9,7 @@ use Rattle.chip_core.specs.Acts.{IsOutcome, event_outcome, puts_of_event}
 use Rattle.chip_core.specs.ChipView.{ChipView, IsChip, view_of, has}
 use Rattle.chip_core.specs.Runs.{next, happens, flat}
 use Rattle.chip_core.specs.Stands.{Shows, Stands}
-use Rattle.chip_core.proofs.StandFacts.{Moved, EventShows, parts_at, moved-is_chip, event_shows, whole-written}
+use Rattle.chip_core.proofs.StandFacts.{Moved, EventShows, parts_at, moved-is_chip, moved-has, event_shows, whole-written}
 use Rattle.chip_core.proofs.RunFacts.{flat-push}
 use Rattle.chip_core.proofs.chip.Chip.event.Goals as goal
 
@@ -74,6 +74,11 @@ returns-in-Hart-clause-output c = λ s events stands.
     ap (λ (f : State). f.output) (after s events c.args.a c.in-Hart.h c.in-Hart.is) ∙ (event c s events stands).output
     ∙ ap (λ m. (flat s events).output ++ puts_of_event c.self.inside.code (record { memory = m; hart = c.index_mut.result.now; statuses = c.self.inside.cores.statuses.items; registers = c.self.inside.cores.registers.items })) (sym c.deref_mut.ensures.value)
     ∙ ap (λ puts. (flat s events).output ++ puts) (sym c.hart_event.ensures.puts)
+
+pub returns-in-Hart-clause-has : goal.returns-in-Hart-clause-has
+unfolding new old
+returns-in-Hart-clause-has c = λ b.
+    moved-has (old c) (new c) c.in-Hart.h c.index_mut.result.now (moved c) b ∙ ap (λ (v : ChipView). has v b) c.self.view_is
 
 -- a near-data core is idle
 same : (s : Setup) (events : List Actor) (a : Actor) (j : ℕ) → a ≡ Actor_is.Core j → flat s (events ++ a ∷ []) ≡ flat s events
