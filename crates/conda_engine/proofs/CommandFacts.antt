@@ -11,7 +11,7 @@ use Rattle.conda_engine.specs.declared.status.Status.{Status}
 use Rattle.conda_engine.specs.declared.status.Status.TheVariants as status
 use Rattle.conda_engine.specs.Command.{CommandOutcome, IsUnmade, IsDone, IsStop, HasStopped, IsComplete, command_texts, verdict_of}
 use Rattle.conda_engine.specs.Outcome.{Outcome, IsAnswerOf, IsDriveEnd, IsRunEnd, Leaves, texts_of}
-use Rattle.conda_engine.specs.Phases.{AreApart, IsFault, HasFront, HoldsFront, Texts, bytes_of}
+use Rattle.conda_engine.specs.Phases.{AreApart, IsFault, HasFront, HoldsFront, KeepsRole, Texts, bytes_of}
 use Rattle.conda_engine.specs.Verdict.{setup_of, verdict, unless_refused, schedule_verdict, image_limit, refusal_of}
 use Rattle.conda_engine.specs.Words.{Files, files_of, are_different, are_values, differs}
 use Rattle.conda_engine.proofs.DriveFacts.{fault_after, caused_after}
@@ -72,6 +72,7 @@ command_of_drive files a b c answer loaded p is within accepted end h q = record
   answered = answered_at h.answered;
   caused = caused_after files a b c answer p.later h.caused;
   leaves = λ tells. leaves_at tells;
+  unreported = unreported_at;
   fronts = record {
     order = front_at Order files.order (λ t. t.order) (λ e. cc) h.fronts.order;
     output = front_at Output files.output (λ t. t.output) (λ e. cc) h.fronts.output;
@@ -96,13 +97,18 @@ command_of_drive files a b c answer loaded p is within accepted end h q = record
         found (at_b tells) ∙ sym (verdict_of_accepted loaded (bytes_of b files.schedule) within accepted)
         ∙ ap (λ i. verdict i (bytes_of b files.schedule)) (sym (is tells)) ∙ ap (verdict (bytes_of a files.image)) same_schedule)
 
+    unreported_at : IsRunEnd answer → answer ≢ status.Done → KeepsRole a c Report
+    unreported_at e d = record {
+      same = λ none. (h.leaves.unreported e d).same (ap (λ r. r.created) (p.roles Report (λ e. cc)) ∙ none) ∙ p.roles Report (λ e. cc);
+    }
+
     leaves_at : IsTrue a.tells → Leaves files a c (command_texts files a) answer
     leaves_at tells =
         let l : Leaves files b c (command_texts files a) answer = subst (λ t. Leaves files b c t answer) (texts tells) h.leaves in
         record {
           ended = l.ended;
           done = l.done;
-          unreported = λ e d. record { same = λ none. (l.unreported e d).same (ap (λ r. r.created) (p.roles Report (λ e. cc)) ∙ none) ∙ p.roles Report (λ e. cc) };
+          unreported = unreported_at;
         }
 
     front_at : (role : Role) (name : List ℕ) (text : Texts → List ℕ) → role ≢ Image → HasFront b c role name (text (texts_of (setup_of loaded) (bytes_of b files.schedule)))
@@ -137,7 +143,7 @@ stopped_of_outcome files a c answer p h stop =
     record {
       order = λ tells. ((h.leaves tells).ended ends.0).order (subst IsTrue (sym p.tells) tells);
       output = λ tells. ((h.leaves tells).ended ends.0).output (subst IsTrue (sym p.tells) tells);
-      report = ?;
+      report = h.unreported ends.0 ends.1;
     }
 
 no_rise : (files : Files) (a c : HostState) (answer : Status) → IsFault files a c answer → ((role : Role) (name : List ℕ) → Rose a c role name → ⊥) → answer ≡ status.OutOfMemory

@@ -216,7 +216,7 @@ ends_done s files a b c run answer apart h done = record {
 }
   where
     same : IsTrue a.tells → report_of_run run ≡ report_of s (a.role Schedule).left
-    same tells = report_of_ran s (run_events s (a.role Schedule).left) run (h.run_is.run_is tells)
+    same tells = report_of_ran s (run_events (a.role Schedule).left) run (h.run_is.run_is tells)
 
 -- the end of a run, whatever its schedule came to
 pub ends_of_finish : (s : Setup) (files : Files) (a b c : HostState) (run : Run) (stop answer : Status) → AreApart files → HasRunTexts s files a b run stop

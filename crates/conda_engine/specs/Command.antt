@@ -5,7 +5,7 @@ use Rattle.conda_host.specs.declared.outside.Role.TheVariants.{Image, Schedule, 
 use Rattle.conda_host.specs.State.{HostState, Rose}
 use Rattle.conda_engine.specs.declared.status.Status.{Status}
 use Rattle.conda_engine.specs.declared.status.Status.TheVariants as status
-use Rattle.conda_engine.specs.Outcome.{IsAnswerOf, Leaves, texts_of}
+use Rattle.conda_engine.specs.Outcome.{IsAnswerOf, IsRunEnd, Leaves, texts_of}
 use Rattle.conda_engine.specs.Phases.{IsCaused, HasFronts, KeepsRole, Texts, bytes_of}
 use Rattle.conda_engine.specs.Verdict.{setup_of, verdict}
 use Rattle.conda_engine.specs.Words.{Files}
@@ -37,6 +37,7 @@ pub record CommandOutcome (files : Files) (old new : HostState) (answer : Status
   pub answered : IsAnswerOf files old new (verdict_of files old) answer
   pub caused : IsCaused files old new answer
   pub leaves : IsTrue old.tells → Leaves files old new (command_texts files old) answer
+  pub unreported : IsRunEnd answer → answer ≢ status.Done → KeepsRole old new Report
   pub fronts : HasFronts files old new (command_texts files old)
   pub unmade : IsUnmade answer → MadeNothing old new
   pub run : answer ≢ status.Usage

@@ -2,7 +2,8 @@
 use Rattle.std.specs.Prelude.{◌≡◌, ℕ, ◌<◌, ◌≤◌, List, [], length, IsTrue, Some, None}
 use Rattle.conda_host.specs.declared.outside.Role.TheVariants.{Image}
 use Rattle.conda_host.specs.State.{HostState, Rose}
-use Rattle.chip_core.specs.ChipView.{ChipView}
+use Rattle.conda_base.specs.declared.actor.Actor.TheVariants as Actor_is
+use Rattle.chip_core.specs.ChipView.{ChipView, has}
 use Rattle.chip_core.specs.Stands.{Stands}
 use Rattle.conda_engine.specs.declared.status.Status.{Status}
 use Rattle.conda_engine.specs.declared.status.Status.TheVariants as status
@@ -13,6 +14,7 @@ use Rattle.conda_engine.specs.Verdict.{image_limit, refusal_of, setup_of}
 pub record Starts (image : List ℕ) (chip : ChipView) : Type 0 where
   pub accepted : refusal_of image ≡ None
   pub stands : Stands (setup_of image) chip []
+  pub has : IsTrue (has chip (Actor_is.Hart 0))
 
 -- why bytes give no chip: they are refused, or memory ran out
 abbrev pub IsImageError : List ℕ → Status → Type 0

@@ -4,6 +4,7 @@ ghost use Rattle.conda_host.specs.State.{IsLater};
 ghost use Rattle.conda_engine.specs.Command.{CommandOutcome, IsDone, IsStop, HasStopped, IsComplete, IsUnmade, MadeNothing, verdict_of, command_texts};
 ghost use Rattle.conda_engine.specs.Phases.{AreApart, IsCaused, HasFronts, KeepsOthers};
 ghost use Rattle.conda_engine.specs.Outcome.{IsAnswerOf};
+ghost use Rattle.conda_engine.specs.StatusText.{IsTold};
 ghost use Rattle.conda_engine.specs.Words.{files_of, named};
 
 use crate::Status;
@@ -17,6 +18,7 @@ use std::alloc::Global;
 fn run_command<H: Host>(alloc: Global, names: &FileNames, host: &mut H) -> Status
     requires { AreApart (named names.now) }
     ensures outcome { CommandOutcome (named names.now) (H.state host.old) (H.state host.new) result }
+    ensures told { IsTold result }
     ensures others { KeepsOthers (named names.now) (H.state host.old) (H.state host.new) }
     ensures later { IsLater (H.state host.old) (H.state host.new) }
 {
@@ -41,6 +43,9 @@ pub fn conda<H: Host>(alloc: Global, words: &[String], host: &mut H) -> Status
     ensures answer { IfSome (files_of (map string_bytes words.now)) (λ files. IsAnswerOf files (H.state host.old) (H.state host.new) (verdict_of files (H.state host.old)) result) }
     ensures cause { IfSome (files_of (map string_bytes words.now)) (λ files. IsCaused files (H.state host.old) (H.state host.new) result) }
     ensures complete { IfSome (files_of (map string_bytes words.now)) (λ files. IsComplete files (H.state host.old) (H.state host.new) result) }
+
+    // Want of memory is a status of its own, also where the image finds none.
+    ensures told { IsTold result }
 
     // What the files hold where it isn't Done.
     ensures stopped { IsStop result → IfSome (files_of (map string_bytes words.now)) (λ files. HasStopped files (H.state host.old) (H.state host.new)) }

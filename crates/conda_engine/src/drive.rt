@@ -3,6 +3,8 @@ ghost use Rattle.std.specs.Prelude.{◌≡◌, ◌≢◌, ℕ, List, [], IsTrue,
 ghost use Rattle.conda_host.specs.State.{IsLater, IsOpened};
 ghost use Rattle.conda_host.specs.declared.outside.Role.TheVariants as role;
 ghost use Rattle.offload_calls.specs.State.{Setup};
+ghost use Rattle.conda_base.specs.declared.actor.Actor.{Actor};
+ghost use Rattle.chip_core.specs.ChipView.{has};
 ghost use Rattle.chip_core.specs.Stands.{Stands};
 ghost use Rattle.conda_engine.specs.Outcome.{report_of_run, texts_of, HoldFronts, IsRunEnd, EndsReport, IsDriveEnd, Ends, Outcome};
 ghost use Rattle.conda_engine.specs.Phases.{AreApart, HasText, HasFront, IsFault, KeepsRole, KeepsOthers, bytes_of};
@@ -43,6 +45,7 @@ fn run_texts<H: Host>(
     host: &mut H,
 ) -> Result<Finished, Status>
     requires apart { AreApart (named names.now) }
+    requires has { IsTrue (has chip (Actor.Hart 0)) }
     requires opened { IsTrue (IsOpened (H.state host.old) role.Schedule) }
     requires order { HasText (H.state host.old) role.Order names.now.order.now [] }
     requires output { HasText (H.state host.old) role.Output names.now.output.now [] }
@@ -70,6 +73,8 @@ fn finish<H: Host>(names: &FileNames, finished: &Finished, host: &mut H) -> Stat
     ensures still { finished.now.status ≢ Status.Done → H.state host.new ≡ H.state host.old }
     ensures done { finished.now.status ≡ Status.Done → EndsReport (named names.now) (H.state host.old) (H.state host.new) (report_of_run finished.now.run) result }
     ensures refusal { IsDriveEnd result }
+    ensures others { IsTrue (H.state host.old).tells → (n : List ℕ) → n ≢ names.now.report.now → (H.state host.new).file n ≡ (H.state host.old).file n }
+    ensures later { IsLater (H.state host.old) (H.state host.new) }
 {
     if finished.status != Status::Done {
         return finished.status;
@@ -83,6 +88,7 @@ fn finish<H: Host>(names: &FileNames, finished: &Finished, host: &mut H) -> Stat
 // Runs the schedule, and writes the texts and the report.
 fn run_files<H: Host>(alloc: Global, names: &FileNames, chip: Chip, host: &mut H) -> Status
     requires apart { AreApart (named names.now) }
+    requires has { IsTrue (has chip (Actor.Hart 0)) }
     requires opened { IsTrue (IsOpened (H.state host.old) role.Schedule) }
     requires order { HasText (H.state host.old) role.Order names.now.order.now [] }
     requires output { HasText (H.state host.old) role.Output names.now.output.now [] }
@@ -99,7 +105,8 @@ fn run_files<H: Host>(alloc: Global, names: &FileNames, chip: Chip, host: &mut H
 
 /// Opens the schedule, creates the files, runs the schedule, and writes the files.
 pub fn drive<H: Host>(alloc: Global, names: &FileNames, chip: Chip, host: &mut H) -> Status
-    requires { AreApart (named names.now) }
+    requires apart { AreApart (named names.now) }
+    requires has { IsTrue (has chip (Actor.Hart 0)) }
     ensures outcome { (s : Setup) → Stands s chip [] → Outcome s (named names.now) (H.state host.old) (H.state host.new) (bytes_of (H.state host.old) names.now.schedule.now) result }
     ensures others { KeepsOthers (named names.now) (H.state host.old) (H.state host.new) }
     ensures later { IsLater (H.state host.old) (H.state host.new) }

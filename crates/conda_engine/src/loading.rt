@@ -3,6 +3,7 @@ ghost use Rattle.std.specs.Prelude.{◌≡◌, IfOk, IfErr};
 ghost use Rattle.conda_host.specs.State.{IsReading};
 ghost use Rattle.conda_host.specs.declared.outside.Role.TheVariants as role;
 ghost use Rattle.conda_engine.specs.Loading.{Starts, IsImageError, HoldsImage, IsLoaded, IsLoadError};
+ghost use Rattle.conda_engine.specs.StatusText.{IsTold};
 
 use crate::Status;
 use crate::calls::{open, read};
@@ -34,6 +35,7 @@ impl From<AllocError> for Status {
 fn chip_of(alloc: Global, file: &[u8]) -> Result<Chip, Status>
     ensures ok { IfOk result (Starts file.now) }
     ensures err { IfErr result (IsImageError file.now) }
+    ensures told { IfErr result IsTold }
 {
     let image = match load(alloc, file, 0, MEMORY_BYTES) {
         Ok(image) => image,
@@ -49,6 +51,7 @@ fn chip_of(alloc: Global, file: &[u8]) -> Result<Chip, Status>
 fn read_image<H: Host>(alloc: Global, name: &str, host: &mut H) -> Result<Vec<u8>, Status>
     ensures ok { IfOk result (λ file. HoldsImage (H.state host.old) name.now file.items) }
     ensures err { IfErr result (λ e. IsLoadError (H.state host.old) (H.state host.new) name.now e) }
+    ensures told { IfErr result IsTold }
     ensures rest { IsReading (H.state host.old) (H.state host.new) role.Image }
 {
     open(host, Role::Image, name)?;
@@ -59,6 +62,7 @@ fn read_image<H: Host>(alloc: Global, name: &str, host: &mut H) -> Result<Vec<u8
 pub fn load_chip<H: Host>(alloc: Global, name: &str, host: &mut H) -> Result<Chip, Status>
     ensures ok { IfOk result (λ chip. IsLoaded (H.state host.old) name.now chip) }
     ensures err { IfErr result (λ e. IsLoadError (H.state host.old) (H.state host.new) name.now e) }
+    ensures told { IfErr result IsTold }
     ensures rest { IsReading (H.state host.old) (H.state host.new) role.Image }
 {
     let file = read_image(alloc, name, host)?;

@@ -28,7 +28,8 @@ impl Run {
 
     /// A run of no event.
     pub fn new(alloc: Global, chip: Chip) -> Run
-        ensures { (s : Setup) → Stands s chip [] → IsRun s [] result }
+        ensures run { (s : Setup) → Stands s chip [] → IsRun s [] result }
+        ensures chip { result.chip ≡ chip }
     {
         Run {
             chip,
@@ -58,7 +59,8 @@ impl Run {
         ensures has { OnOk result (has self.new.chip a ≡ has self.old.chip a) }
     {
         let event = self.chip.event(a);
-        self.record(&event)
+        self.record(&event)?;
+        Ok(())
     }
 
     // So many events of hart 0.

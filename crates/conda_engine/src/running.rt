@@ -3,6 +3,8 @@ ghost use Rattle.std.specs.Prelude.{◌≡◌, [], IsTrue, IfOk, IfErr};
 ghost use Rattle.conda_host.specs.State.{IsReading, IsOpened};
 ghost use Rattle.conda_host.specs.declared.outside.Role.TheVariants as role;
 ghost use Rattle.offload_calls.specs.State.{Setup};
+ghost use Rattle.conda_base.specs.declared.actor.Actor.{Actor};
+ghost use Rattle.chip_core.specs.ChipView.{has};
 ghost use Rattle.chip_core.specs.Stands.{Stands};
 ghost use Rattle.conda_engine.specs.Calls.{IsPrefixError};
 ghost use Rattle.conda_engine.specs.Outcome.{IsRunEnd};
@@ -42,6 +44,7 @@ fn status_of(bad: Option<u64>, longer: bool) -> Status
 
 // Runs the bytes of a schedule.
 fn run_text(alloc: Global, chip: Chip, text: &Prefix) -> Result<Finished, AllocError>
+    requires { IsTrue (has chip (Actor.Hart 0)) }
     ensures end { IfOk result (λ f. IsRunEnd f.status) }
     ensures run { IfOk result (λ f. (s : Setup) → Stands s chip [] → HasRunText s text.now.bytes.items text.now.more f.run f.status) }
 {
@@ -53,7 +56,8 @@ fn run_text(alloc: Global, chip: Chip, text: &Prefix) -> Result<Finished, AllocE
 
 /// Reads the schedule and runs it.
 pub fn run_schedule<H: Host>(alloc: Global, chip: Chip, host: &mut H) -> Result<Finished, Status>
-    requires { IsTrue (IsOpened (H.state host.old) role.Schedule) }
+    requires opened { IsTrue (IsOpened (H.state host.old) role.Schedule) }
+    requires has { IsTrue (has chip (Actor.Hart 0)) }
     ensures end { IfOk result (λ f. IsRunEnd f.status) }
     ensures ok { IfOk result (λ f. (s : Setup) → Stands s chip [] → HasRun s (H.state host.old) f.run f.status) }
     ensures err { IfErr result (IsPrefixError (H.state host.old) (H.state host.new) role.Schedule) }

@@ -2,6 +2,7 @@
 use crate::{Status, conda, status_text};
 use arrayvec::ArrayVec;
 use conda_host::{MemoryHost, Role};
+use elf_loader::ImageFault;
 use std::alloc::{AllocError, Global};
 use std::test::Fail;
 
@@ -151,19 +152,38 @@ fn a_store_changes_a_line(rt: HostRuntime) -> Result<(), Fail> {
 }
 
 #[test]
-fn a_word_that_is_not_built(rt: HostRuntime) -> Result<(), Fail> {
+fn a_word_that_is_no_instruction(rt: HostRuntime) -> Result<(), Fail> {
     let alloc = rt.alloc();
     let (status, host) = run(alloc, plain(alloc, &[0xffff_ffff])?, b"h0 1", 0)?;
-    let pc = ENTRY;
-    assert_eq!(rt;
-        status,
-        Status::NotBuilt {
-            pc,
-            word: 0xffff_ffff
-        }
-    );
-    assert_eq!(rt; host.file("order"), Some(b"".as_slice()));
-    assert_eq!(rt; host.file("report"), None);
+    assert_eq!(rt; status, Status::Done);
+    let report =
+        "events 1\noutput 0\nhart 0 trap 2 ffffffff pc 00010000\nx11 00000001\ncore 0 idle pc 00000000\n";
+    assert_eq!(rt; host.file("report"), Some(report.as_bytes()));
+    Ok(())
+}
+
+// bne x0,x0,2
+#[test]
+fn a_branch_that_is_not_taken(rt: HostRuntime) -> Result<(), Fail> {
+    let alloc = rt.alloc();
+    let (status, host) = run(alloc, plain(alloc, &[0x0000_1163])?, b"h0 1", 0)?;
+    assert_eq!(rt; status, Status::Done);
+    let report =
+        "events 1\noutput 0\nhart 0 run pc 00010004\nx11 00000001\ncore 0 idle pc 00000000\n";
+    assert_eq!(rt; host.file("report"), Some(report.as_bytes()));
+    Ok(())
+}
+
+// lui x5,4096; lw x6,-2(x5)
+#[test]
+fn a_misaligned_load(rt: HostRuntime) -> Result<(), Fail> {
+    let alloc = rt.alloc();
+    let image = plain(alloc, &[0x0100_02b7, 0xffe2_a303])?;
+    let (status, host) = run(alloc, image, b"h0 2", 0)?;
+    assert_eq!(rt; status, Status::Done);
+    let report =
+        "events 2\noutput 0\nhart 0 trap 4 00fffffe pc 00010004\nx5 01000000\nx11 00000001\ncore 0 idle pc 00000000\n";
+    assert_eq!(rt; host.file("report"), Some(report.as_bytes()));
     Ok(())
 }
 
@@ -183,7 +203,7 @@ fn a_bad_image(rt: HostRuntime) -> Result<(), Fail> {
     let mut image = plain(alloc, &ONE_LETTER)?;
     let _last = image.pop();
     let (status, host) = run(alloc, image, b"", 0)?;
-    assert_eq!(rt; status, Status::Image);
+    assert_eq!(rt; status, Status::Image(ImageFault::BadSegment(0)));
     assert_eq!(rt; host.file("order"), None);
     Ok(())
 }
@@ -221,11 +241,8 @@ fn words_and_lines(rt: HostRuntime) -> Result<(), Fail> {
 #[test]
 fn lines_of_statuses(rt: HostRuntime) {
     let mut text: ArrayVec<u8, 128> = ArrayVec::new();
-    let status = Status::NotBuilt { pc: 65536, word: 7 };
+    let status = Status::Image(ImageFault::BadFlags(1));
     status_text(&status, &mut text);
-    assert_eq!(rt;
-        text.as_slice(),
-        b"conda: not built: word 7 at 65536".as_slice()
-    );
-    assert_eq!(rt; status.code(), 10);
+    assert_eq!(rt; text.as_slice(), b"conda: image fault 8 1".as_slice());
+    assert_eq!(rt; status.code(), 6);
 }
