@@ -1,5 +1,5 @@
 -- How pieces of a schedule join.
-use Rattle.std.proofs.Common.{◌≡◌, ℕ, ◌+◌, ◌<◌, ◌≤◌, Bool, true, false, List, [], ◌∷◌, ◌++◌, length, refl, sym, ◌∙◌, ap, subst, arith, append_assoc, length-append}
+use Rattle.std.proofs.Common.{◌≡◌, ℕ, ◌+◌, ◌<◌, ◌≤◌, Bool, true, false, List, [], ◌∷◌, ◌++◌, length, refl, sym, ◌∙◌, ap, subst, arith, append-nil, append_assoc, length-append}
 use Rattle.std.specs.Prelude.{None, nat_lt}
 use Rattle.std.specs.List.{list_any}
 use Rattle.std.proofs.lemmas.Bool.{eqb-true}
@@ -52,16 +52,12 @@ pub record BeginsLong (more : Bool) (line text : List ℕ) : Type 0 where
   pub later : List (List ℕ)
   pub lines : judged_lines more text ≡ (line ++ extra) ∷ later
 
-pub nothing_after : (line : List ℕ) → line ++ [] ≡ line
-nothing_after [] = refl
-nothing_after (byte ∷ line) = ap (λ rest. byte ∷ rest) (nothing_after line)
-
 long_alone : (more : Bool) (line : List ℕ) → list_any is_feed line ≡ false → 32 < length line → judged_lines more (line ++ []) ≡ (line ++ []) ∷ []
 long_alone more line none long =
-    rw (nothing_after line) (judged_part more line none ∙ rw (long_is_last more line long) refl)
+    rw (append-nil line) (judged_part more line none ∙ rw (long_is_last more line long) refl)
 
 long_ended : (more : Bool) (line rest : List ℕ) → list_any is_feed line ≡ false → judged_lines more (line ++ 10 ∷ rest) ≡ (line ++ []) ∷ judged_lines more rest
-long_ended more line rest none = rw (nothing_after line) (judged_line more line rest none)
+long_ended more line rest none = rw (append-nil line) (judged_line more line rest none)
 
 long_on : (more : Bool) (line : List ℕ) (byte : ℕ) (rest : List ℕ) → BeginsLong more (line ++ byte ∷ []) ((line ++ byte ∷ []) ++ rest) → BeginsLong more line (line ++ byte ∷ rest)
 long_on more line byte rest after = record {

@@ -1,5 +1,5 @@
 -- The laws over whole schedules.
-use Rattle.std.proofs.Common.{◌≡◌, ℕ, ◌+◌, ◌≤◌, Bool, true, false, List, [], ◌∷◌, ◌++◌, length, take, refl, sym, ◌∙◌, ap, arith}
+use Rattle.std.proofs.Common.{append-nil, ◌≡◌, ℕ, ◌+◌, ◌≤◌, Bool, true, false, List, [], ◌∷◌, ◌++◌, length, take, refl, sym, ◌∙◌, ap, arith}
 use Rattle.std.specs.Prelude.{if◌then◌else◌, nat_le, replicate}
 use Rattle.std.proofs.lemmas.Bool.Decides.{nat_tests}
 use Rattle.std.proofs.lemmas.List.{take_all}
@@ -7,13 +7,13 @@ use Rattle.schedule_log.specs.Schedule.{judged_lines}
 use Rattle.schedule_log.specs.Findings.{Finding, Asks, Fails, at_start, finds, findings, found_from}
 use Rattle.schedule_log.specs.Verdict.{Fine, BadLine, TooLarge, events_of, good_after, is_too_long, judged_findings, most_bytes, most_events, verdict_after}
 use Rattle.schedule_log.specs.Laws.{PiecesJoin, WholeIsFound, FineRunsAll}
-use Rattle.schedule_log.proofs.FeedLemmas.{feeds_join, nothing_after}
+use Rattle.schedule_log.proofs.FeedLemmas.{feeds_join}
 
 pub pieces_join_all : PiecesJoin
 pieces_join_all start middle last piece next given later first second = feeds_join start middle last piece next given later first second
 
 pub whole_is_found : WholeIsFound
-whole_is_found harts cores text given last f more = ap (finds more (at_start harts cores)) (sym (nothing_after text)) ∙ f.whole more []
+whole_is_found harts cores text given last f more = ap (finds more (at_start harts cores)) (sym (append-nil text)) ∙ f.whole more []
 
 -- lines that are fine run whole
 fine_run : (found : List Finding) (run : ℕ) → verdict_after run Fine found ≡ Fine → good_after run found ≡ events_of found
