@@ -11,7 +11,7 @@ use Rattle.schedule_log.specs.declared.line.Reading.{Reading}
 use Rattle.schedule_log.specs.declared.line.Reading.TheVariants as Reading_is
 use Rattle.schedule_log.specs.Schedule.{is_feed, count_of, last_line, judged_lines}
 use Rattle.schedule_log.specs.Grammar.{reading, blank_or_worded, worded, counted, has_form, actor_of, is_on_chip, without_return, ends_in_return}
-use Rattle.schedule_log.specs.Findings.{Progress, found_then, found_from, left_over, unless_bad}
+use Rattle.schedule_log.specs.Findings.{Progress, found_then, found_from, left_over, unless_bad, finds}
 use Rattle.schedule_log.proofs.FeedLemmas.{judged_part}
 
 last_alone : (harts cores number : ℕ) (line : List ℕ) → found_from harts cores number (last_line false line) ≡ found_then (reading harts cores line) number []
@@ -22,6 +22,7 @@ last_alone harts cores number (byte ∷ line) =
 
 -- where no bad line was met, the line begun is the last one
 pub left_alone : (s : Progress) → s.bad ≡ None → list_any is_feed s.begun ≡ false → left_over s ≡ found_then (reading s.harts s.cores s.begun) (s.ended + 1) []
+unfolding finds
 left_alone s good none =
     ap (λ bad. unless_bad bad (found_from s.harts s.cores (s.ended + 1) (judged_lines false (s.begun ++ [])))) good
     ∙ ap (λ text. found_from s.harts s.cores (s.ended + 1) (judged_lines false text)) (append-nil s.begun)

@@ -11,7 +11,7 @@ use Rattle.schedule_log.specs.declared.line.Reading.{Reading}
 use Rattle.schedule_log.specs.declared.line.Reading.TheVariants as Reading_is
 use Rattle.schedule_log.specs.Schedule.{is_feed, is_last_line}
 use Rattle.schedule_log.specs.Grammar.{reading}
-use Rattle.schedule_log.specs.Findings.{Finding, Asks, Fails, Progress, shown, answer_at, Feeds, IsBegun, feeds_in}
+use Rattle.schedule_log.specs.Findings.{Finding, Asks, Fails, Progress, shown, answer_at, Feeds, IsBegun, feeds_in, finds}
 use Rattle.schedule_log.specs.Steps.{after_line, after_byte, said_at}
 use Rattle.schedule_log.specs.declared.fed.Fed.TheVariants as Fed_is
 use Rattle.schedule_log.proofs.FeedLemmas.{any_more, judged_part, feeds_join, feeds_byte, feeds_nothing}
@@ -122,8 +122,14 @@ walks_events start s part byte actor count w is =
 pub answer_events : (start t : Progress) (piece : List ℕ) (u : ℕ) (actor : Actor) (count : ℕ) → Feeds start (take u piece) (Asks actor count ∷ []) t → Fed_is.Events actor count u ≡ answer_at u (shown start piece)
 answer_events start t piece u actor count f = sym (ap (answer_at u) (shown_after start t piece u (Asks actor count ∷ []) f))
 
+-- a bad line is all that is found after it
+pub bad_finds : (more : Bool) (t : Progress) (bad : BadLine) (rest : List ℕ) → t.bad ≡ Some bad → finds more t rest ≡ Fails bad.line bad.why ∷ []
+unfolding finds
+bad_finds more t bad rest is = rw is refl
+
 -- nothing follows a bad line
 pub feeds_bad : (t : Progress) (bad : BadLine) (rest : List ℕ) → t.bad ≡ Some bad → Feeds t rest [] t
+unfolding finds
 feeds_bad t bad rest is = record { whole = λ more later. rw is refl }
 
 pub bad_state : (s : Progress) (byte why : ℕ) → said_at s byte ≡ Reading_is.Bad why → (after_byte s byte).bad ≡ Some (record { line = s.ended + 1; why = why })
@@ -164,11 +170,12 @@ walks_bad start s piece i byte why w next is =
 
 pub answer_bad : (start t : Progress) (piece : List ℕ) (u line why : ℕ) → Feeds start piece [] t → t.bad ≡ Some (record { line = line; why = why }) → Fed_is.Bad line why ≡ answer_at u (shown start piece)
 answer_bad start t piece u line why f is =
-    let shows : shown start piece ≡ Fails line why ∷ [] = ap (shown start) (sym (append-nil piece)) ∙ f.whole true [] ∙ rw is refl in
+    let shows : shown start piece ≡ Fails line why ∷ [] = ap (shown start) (sym (append-nil piece)) ∙ f.whole true [] ∙ bad_finds true t (record { line = line; why = why }) [] is in
     rw shows refl
 
 -- a line begun shows nothing yet
 pub shows_nothing : (s : Progress) → s.bad ≡ None → IsBegun s.begun → shown s [] ≡ []
+unfolding finds
 shows_nothing s good begun =
     let no_part : is_last_line true s.begun ≡ false = grind (arith, nat_tests, begun.short) in
     rw good (rw (append-nil s.begun) (rw (judged_part true s.begun begun.no_feed) (rw no_part refl)))

@@ -1,10 +1,18 @@
-use Rattle.std.proofs.Common.{◌≡◌, ◌+◌, ◌-◌, ◌≤◌, [], length, take, get_or, Some, sym, ap, ◌∙◌, arith}
+use Rattle.std.proofs.Common.{rules, ◌≡◌, ◌+◌, ◌-◌, ◌≤◌, [], length, take, get_or, Some, sym, ap, ◌∙◌, arith}
 use Rattle.std.proofs.lemmas.List.{take_more}
 use Rattle.std.proofs.lemmas.Option.{slice_get-get_or}
 use Rattle.std.proofs.Math.Seq.{take-length}
-use Rattle.schedule_log.specs.Findings.{feeds_in, Feeds, Progress}
+use Rattle.schedule_log.specs.Findings.{finds, feeds_in, Feeds, Progress}
 use Rattle.schedule_log.proofs.WalkLemmas.{feeds_in_taken, walks_on, walks_events, walks_bad, answer_events, answer_bad, answer_more, bad_ended, bad_line_at, events_end}
 use Rattle.schedule_log.proofs.reader.Reader.feed.Goals as goal
+
+pub returns-in-Some-clause-feeds : goal.returns-in-Some-clause-feeds
+unfolding finds
+returns-in-Some-clause-feeds c = search rules
+
+pub returns-in-Some-clause-answer : goal.returns-in-Some-clause-answer
+unfolding finds
+returns-in-Some-clause-answer c = search rules
 
 pub take-requires : goal.take-requires
 take-requires c =
