@@ -117,9 +117,11 @@ pub data_is : (bytes : List ℕ) (value : Data) → IsUtf8 bytes → read_text b
 data_is bytes value text is = rw (is_utf8-from_IsUtf8 bytes text) is
 
 pub configured_is : (bytes : List ℕ) (value : Data) → IsUtf8 bytes → read_text bytes ≡ Some value → configured bytes ≡ settings_of value
+unfolding configured
 configured_is bytes value text is = rw (data_is bytes value text is) refl
 
 pub not_json : (bytes : List ℕ) → (IsUtf8 bytes → read_text bytes ≡ None) → configured bytes ≡ Err Fault_is.NotJson
+unfolding configured
 not_json bytes none = go (is_utf8 bytes) refl
   where
     go : (b : Bool) → is_utf8 bytes ≡ b → configured bytes ≡ Err Fault_is.NotJson

@@ -92,7 +92,7 @@ settings_or_not_json None = Err NotJson
 settings_or_not_json (Some value) = settings_of value
 
 -- the numbers that bytes configure, or the first fault of the bytes
-abbrev pub configured : List ℕ → Result (List ℕ) ConfigFault
+unfoldable pub configured : List ℕ → Result (List ℕ) ConfigFault
 configured bytes = settings_or_not_json (data_of bytes)
 
 -- sixteen numbers in the ranges of their keys

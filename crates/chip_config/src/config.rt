@@ -6,21 +6,37 @@ ghost use Rattle.conda_base.specs.Lines.{IsLineSize};
 /// A chip's configuration. Every number is in its range, and memory is a whole number of lines below 2^32.
 #[derive(Clone, Copy, Debug, PartialEq, Eq)]
 pub struct Config {
+    /// How many harts there are.
     pub harts: u32,
+    /// How many near-data cores there are.
     pub cores: u32,
+    /// The address of memory's first byte.
     pub mem_base: u32,
+    /// How many bytes memory has.
     pub mem_bytes: u32,
+    /// How many sets a hart's cache has.
     pub hart_sets: u32,
+    /// How many lines a set of a hart's cache holds.
     pub hart_ways: u32,
+    /// How many sets a core's cache has.
     pub core_sets: u32,
+    /// How many lines a set of a core's cache holds.
     pub core_ways: u32,
+    /// A segment of a signature has 2 to the power of this many bits.
     pub sig_bits: u32,
+    /// The most fill of the signature of lines that a try reads.
     pub read_limit: u32,
+    /// The most fill of the signature of lines that a try stores to.
     pub write_limit: u32,
+    /// How many acts a try may have.
     pub portion_max: u32,
+    /// How many bytes of output a try may hold.
     pub out_max: u32,
+    /// How many tries in a row may be taken back before one runs under the lock.
     pub retries: u32,
+    /// How many of the last notes are kept.
     pub trace_last: u32,
+    /// How many bytes a line has.
     pub line_bytes: u32,
     pub ghost some_harts: { (1 ≤ harts) × (harts ≤ 8) },
     pub ghost some_cores: { (1 ≤ cores) × (cores ≤ 4) },

@@ -1,5 +1,5 @@
 -- What a schedule's end brings.
-use Rattle.std.proofs.Common.{◌≡◌, ℕ, ◌+◌, ◌-◌, ◌≤◌, ◌==◌, Bool, true, false, List, [], ◌∷◌, ◌++◌, length, drop, refl, sym, ◌∙◌, ap, arith, inl, inr}
+use Rattle.std.proofs.Common.{append-nil, ◌≡◌, ℕ, ◌+◌, ◌-◌, ◌≤◌, ◌==◌, Bool, true, false, List, [], ◌∷◌, ◌++◌, length, drop, refl, sym, ◌∙◌, ap, arith, inl, inr}
 use Rattle.std.specs.Prelude.{Option, Some, None, ◌⊎◌, nat_lt, slice_index}
 use Rattle.std.specs.List.{list_any}
 use Rattle.std.proofs.lemmas.Bool.{eqb-true}
@@ -11,8 +11,8 @@ use Rattle.schedule_log.specs.declared.line.Reading.{Reading}
 use Rattle.schedule_log.specs.declared.line.Reading.TheVariants as Reading_is
 use Rattle.schedule_log.specs.Schedule.{is_feed, count_of, last_line, judged_lines}
 use Rattle.schedule_log.specs.Grammar.{reading, blank_or_worded, worded, counted, has_form, actor_of, is_on_chip, without_return, ends_in_return}
-use Rattle.schedule_log.specs.Findings.{Progress, found_then, found_from, left_over, unless_bad}
-use Rattle.schedule_log.proofs.FeedLemmas.{judged_part, nothing_after}
+use Rattle.schedule_log.specs.Findings.{Progress, found_then, found_from, left_over, unless_bad, finds}
+use Rattle.schedule_log.proofs.FeedLemmas.{judged_part}
 
 last_alone : (harts cores number : ℕ) (line : List ℕ) → found_from harts cores number (last_line false line) ≡ found_then (reading harts cores line) number []
 last_alone harts cores number [] = refl
@@ -22,9 +22,10 @@ last_alone harts cores number (byte ∷ line) =
 
 -- where no bad line was met, the line begun is the last one
 pub left_alone : (s : Progress) → s.bad ≡ None → list_any is_feed s.begun ≡ false → left_over s ≡ found_then (reading s.harts s.cores s.begun) (s.ended + 1) []
+unfolding finds
 left_alone s good none =
     ap (λ bad. unless_bad bad (found_from s.harts s.cores (s.ended + 1) (judged_lines false (s.begun ++ [])))) good
-    ∙ ap (λ text. found_from s.harts s.cores (s.ended + 1) (judged_lines false text)) (nothing_after s.begun)
+    ∙ ap (λ text. found_from s.harts s.cores (s.ended + 1) (judged_lines false text)) (append-nil s.begun)
     ∙ ap (found_from s.harts s.cores (s.ended + 1)) (judged_part false s.begun none)
     ∙ last_alone s.harts s.cores (s.ended + 1) s.begun
 

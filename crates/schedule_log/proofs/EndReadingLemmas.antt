@@ -3,7 +3,8 @@ use Rattle.std.proofs.Common.{◌≡◌, ℕ, ◌+◌, ◌-◌, ◌<◌, ◌≤�
 use Rattle.std.specs.Prelude.{Option, Some, None, IfSome, option_map, slice_index, nat_le, ◌&&◌}
 use Rattle.std.specs.Fmt.{decimal}
 use Rattle.std.proofs.lemmas.Fmt.{decimal_digit}
-use Rattle.std.proofs.lemmas.List.{take_all}
+use Rattle.std.proofs.lemmas.List.{take_all, take-append-drop}
+use Rattle.std.proofs.Math.Seq.{drop-append-add, take-append_seam}
 use Rattle.std.proofs.lemmas.Bool.{eqb-true}
 use Rattle.std.proofs.lemmas.Bool.Decides.{nat_tests}
 use Rattle.schedule_log.specs.declared.entry.Entry.{Entry}
@@ -12,7 +13,6 @@ use Rattle.schedule_log.specs.declared.entry_reading.TryEnd.{TryEnd}
 use Rattle.schedule_log.specs.Texts.{actor_text, end_text, text_of, IsEnd, IsEntry}
 use Rattle.schedule_log.specs.EntryReading.{acts_in, actor_in, cause_in, committed, digit_in, end_after, end_in, entry_at, entry_by, last_two, taken_back}
 use Rattle.schedule_log.proofs.EntryReadingLemmas.{acts_read, acts_words, actor_read, actor_words, and_true, cause_read, cause_words, chained, digit_read, digit_text, mapped, pick}
-use Rattle.schedule_log.proofs.WalkLemmas.{split_at}
 
 -- the text after a core and a space
 record IsTail (text : List ℕ) (end : TryEnd) : Type 0 where
@@ -33,7 +33,7 @@ split_round : (text : List ℕ) (k byte : ℕ) → slice_index text k ≡ byte �
 split_round text k byte is some =
     let below : k < length text = index_below text k (omega arith) in
     rw add-one (let at : drop k text ≡ byte ∷ drop (suc k) text = drop-cons text k 0 below ∙ ap (λ b. b ∷ drop (suc k) text) is in
-    ap (λ rest. take k text ++ rest) (sym at) ∙ sym (split_at text k))
+    ap (λ rest. take k text ++ rest) (sym at) ∙ take-append-drop k text)
 
 tail_words : (core : ℕ) (text : List ℕ) (end : TryEnd) → end_after core text ≡ Some end → IsTail text end × (end.core ≡ core)
 tail_words core text end h =
@@ -79,16 +79,6 @@ end_words (byte ∷ space ∷ text) end h =
     }))
     (λ _ y. absurd (cc))
 
-take_front : (front back : List ℕ) → take (length front) (front ++ back) ≡ front
-take_front [] back = refl
-take_front (byte ∷ front) back = ap (λ rest. byte ∷ rest) (take_front front back)
-
-drop_front : (front back : List ℕ) (byte : ℕ) → drop (length front + 1) (front ++ byte ∷ back) ≡ back
-drop_front [] back byte = refl
-drop_front (first ∷ front) back byte =
-    let place : suc (length front) + 1 ≡ suc (length front + 1) = omega arith in
-    rw place (drop_front front back byte)
-
 index_front : (front back : List ℕ) (byte : ℕ) → slice_index (front ++ byte ∷ back) (length front) ≡ byte
 index_front [] back byte = refl
 index_front (first ∷ front) back byte = index_front front back byte
@@ -98,7 +88,7 @@ tail_read : (core acts cause byte : ℕ) (front : List ℕ) → acts_in front �
 tail_read core acts cause byte front of_acts of_cause =
     let long : nat_le 2 (length (front ++ 32 ∷ byte ∷ [])) ≡ true = grind (arith, nat_tests, length-append front (32 ∷ byte ∷ [])) in
     let place : last_two (front ++ 32 ∷ byte ∷ []) ≡ length front = omega (arith, length-append front (32 ∷ byte ∷ [])) in
-    rw (long, place) (rw (index_front front (byte ∷ []) 32) (rw (take_front front (32 ∷ byte ∷ []), drop_front front (byte ∷ []) 32) (rw (of_acts, of_cause) refl)))
+    rw (long, place) (rw (index_front front (byte ∷ []) 32) (rw (take-append_seam front (32 ∷ byte ∷ []), drop-append-add front (32 ∷ byte ∷ []) 1) (rw (of_acts, of_cause) refl)))
 
 end_read : (core acts cause : ℕ) → IsEnd core acts cause → end_in (end_text core acts cause) ≡ Some (record { core = core; acts = acts; cause = cause })
 end_read core acts cause fits =

@@ -1,5 +1,5 @@
 -- How pieces of a schedule join.
-use Rattle.std.proofs.Common.{◌≡◌, ℕ, ◌+◌, ◌<◌, ◌≤◌, Bool, true, false, List, [], ◌∷◌, ◌++◌, length, refl, sym, ◌∙◌, ap, subst, arith, append_assoc, length-append}
+use Rattle.std.proofs.Common.{◌≡◌, ℕ, ◌+◌, ◌<◌, ◌≤◌, Bool, true, false, List, [], ◌∷◌, ◌++◌, length, refl, sym, ◌∙◌, ap, subst, arith, append-nil, append_assoc, length-append}
 use Rattle.std.specs.Prelude.{None, nat_lt}
 use Rattle.std.specs.List.{list_any}
 use Rattle.std.proofs.lemmas.Bool.{eqb-true}
@@ -52,16 +52,12 @@ pub record BeginsLong (more : Bool) (line text : List ℕ) : Type 0 where
   pub later : List (List ℕ)
   pub lines : judged_lines more text ≡ (line ++ extra) ∷ later
 
-pub nothing_after : (line : List ℕ) → line ++ [] ≡ line
-nothing_after [] = refl
-nothing_after (byte ∷ line) = ap (λ rest. byte ∷ rest) (nothing_after line)
-
 long_alone : (more : Bool) (line : List ℕ) → list_any is_feed line ≡ false → 32 < length line → judged_lines more (line ++ []) ≡ (line ++ []) ∷ []
 long_alone more line none long =
-    rw (nothing_after line) (judged_part more line none ∙ rw (long_is_last more line long) refl)
+    rw (append-nil line) (judged_part more line none ∙ rw (long_is_last more line long) refl)
 
 long_ended : (more : Bool) (line rest : List ℕ) → list_any is_feed line ≡ false → judged_lines more (line ++ 10 ∷ rest) ≡ (line ++ []) ∷ judged_lines more rest
-long_ended more line rest none = rw (nothing_after line) (judged_line more line rest none)
+long_ended more line rest none = rw (append-nil line) (judged_line more line rest none)
 
 long_on : (more : Bool) (line : List ℕ) (byte : ℕ) (rest : List ℕ) → BeginsLong more (line ++ byte ∷ []) ((line ++ byte ∷ []) ++ rest) → BeginsLong more line (line ++ byte ∷ rest)
 long_on more line byte rest after = record {
@@ -86,10 +82,12 @@ begins_long more (byte ∷ rest) line none long = go (begins_long more rest) (is
 
 -- what a reader finds that has met no bad line
 finds_open : (more : Bool) (s : Progress) (text : List ℕ) → s.bad ≡ None → finds more s text ≡ found_from s.harts s.cores (s.ended + 1) (judged_lines more (s.begun ++ text))
+unfolding finds
 finds_open more s text open_yet = ap (λ bad. unless_bad bad (found_from s.harts s.cores (s.ended + 1) (judged_lines more (s.begun ++ text)))) open_yet
 
 -- a line gives what it says, and then comes what the reader finds after it
 line_gives : (more : Bool) (s : Progress) (rest : List ℕ) (said : Reading) → s.bad ≡ None → found_then said (s.ended + 1) (found_from s.harts s.cores (s.ended + 1 + 1) (judged_lines more rest)) ≡ asked_by said ++ finds more (after_line s said) rest
+unfolding finds
 line_gives more s rest Reading_is.Blank open_yet = sym (finds_open more (after_line s Reading_is.Blank) rest open_yet)
 line_gives more s rest (Reading_is.Events actor count) open_yet = ap (λ later. Asks actor count ∷ later) (sym (finds_open more (after_line s (Reading_is.Events actor count)) rest open_yet))
 line_gives more s rest (Reading_is.Bad why) open_yet = refl
@@ -107,6 +105,7 @@ feeds_feed s open_yet none = record {
 }
 
 feeds_long : (s : Progress) (byte : ℕ) → s.bad ≡ None → list_any is_feed s.begun ≡ false → is_feed byte ≡ false → 32 ≤ length s.begun → Feeds s (byte ∷ []) [] (after_line s (Reading_is.Bad 4))
+unfolding finds
 feeds_long s byte open_yet none other long = record {
   whole = λ more rest.
       let long_on : 32 < length (s.begun ++ byte ∷ []) = omega (arith, length-append s.begun (byte ∷ [])) in
@@ -119,6 +118,7 @@ feeds_long s byte open_yet none other long = record {
 }
 
 feeds_more : (s : Progress) (byte : ℕ) → Feeds s (byte ∷ []) [] (record s { begun = s.begun ++ byte ∷ [] })
+unfolding finds
 feeds_more s byte = record {
   whole = λ more rest.
       ap (λ text. unless_bad s.bad (found_from s.harts s.cores (s.ended + 1) (judged_lines more text))) (sym (append_assoc s.begun (byte ∷ []) rest));

@@ -1,19 +1,32 @@
 -- The laws over whole schedules.
-use Rattle.std.proofs.Common.{◌≡◌, ℕ, ◌+◌, ◌≤◌, Bool, true, false, List, [], ◌∷◌, ◌++◌, length, take, refl, sym, ◌∙◌, ap, arith}
+use Rattle.std.proofs.Common.{append-nil, ◌≡◌, ℕ, ◌+◌, ◌≤◌, Bool, true, false, List, [], ◌∷◌, ◌++◌, length, take, refl, sym, ◌∙◌, ap, arith}
 use Rattle.std.specs.Prelude.{if◌then◌else◌, nat_le, replicate}
 use Rattle.std.proofs.lemmas.Bool.Decides.{nat_tests}
 use Rattle.std.proofs.lemmas.List.{take_all}
 use Rattle.schedule_log.specs.Schedule.{judged_lines}
 use Rattle.schedule_log.specs.Findings.{Finding, Asks, Fails, at_start, finds, findings, found_from}
-use Rattle.schedule_log.specs.Verdict.{Fine, BadLine, TooLarge, events_of, good_after, is_too_long, judged_findings, most_bytes, most_events, verdict_after}
+use Rattle.schedule_log.specs.Verdict.{Fine, BadLine, TooLarge, events_of, good_after, is_too_long, judged_findings, most_bytes, most_events, verdict_after, schedule_verdict, good, events, verdict_at_end}
 use Rattle.schedule_log.specs.Laws.{PiecesJoin, WholeIsFound, FineRunsAll}
-use Rattle.schedule_log.proofs.FeedLemmas.{feeds_join, nothing_after}
+use Rattle.schedule_log.proofs.FeedLemmas.{feeds_join}
 
 pub pieces_join_all : PiecesJoin
 pieces_join_all start middle last piece next given later first second = feeds_join start middle last piece next given later first second
 
 pub whole_is_found : WholeIsFound
-whole_is_found harts cores text given last f more = ap (finds more (at_start harts cores)) (sym (nothing_after text)) ∙ f.whole more []
+whole_is_found harts cores text given last f more = ap (finds more (at_start harts cores)) (sym (append-nil text)) ∙ f.whole more []
+
+-- where a reader starts
+pub finds_at_start : (more : Bool) (harts cores : ℕ) (text : List ℕ) → finds more (at_start harts cores) text ≡ found_from harts cores 1 (judged_lines more text)
+unfolding finds
+finds_at_start more harts cores text = refl
+
+pub verdict_at_start : (harts cores : ℕ) (bytes : List ℕ) → schedule_verdict harts cores bytes ≡ verdict_after 0 (verdict_at_end bytes) (finds (is_too_long bytes) (at_start harts cores) (take most_bytes bytes))
+unfolding schedule_verdict finds
+verdict_at_start harts cores bytes = refl
+
+pub good_at_start : (harts cores : ℕ) (bytes : List ℕ) → good harts cores bytes ≡ good_after 0 (finds (is_too_long bytes) (at_start harts cores) (take most_bytes bytes))
+unfolding good finds
+good_at_start harts cores bytes = refl
 
 -- lines that are fine run whole
 fine_run : (found : List Finding) (run : ℕ) → verdict_after run Fine found ≡ Fine → good_after run found ≡ events_of found
@@ -47,6 +60,7 @@ all_judged harts cores bytes is =
     ∙ ap (λ (text : List ℕ). found_from harts cores 1 (judged_lines false text)) (take_all most_bytes bytes short)
 
 pub fine_runs_every : FineRunsAll
+unfolding schedule_verdict good events
 fine_runs_every harts cores bytes fine =
     let both = fine_by (is_too_long bytes) (judged_findings harts cores bytes) fine in
     both.1 ∙ ap events_of (all_judged harts cores bytes both.0)

@@ -1,3 +1,4 @@
+pub mod AnswerLemmas
 pub mod DecimalLemmas
 pub mod EndLemmas
 pub mod EndReadingLemmas

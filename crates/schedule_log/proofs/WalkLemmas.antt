@@ -1,20 +1,19 @@
 -- A reader on its way through a piece.
-use Rattle.std.proofs.Common.{◌≡◌, ℕ, ◌+◌, ◌≤◌, Bool, true, false, List, [], ◌∷◌, ◌++◌, length, take, drop, zero, suc, refl, sym, ◌∙◌, ap, subst, arith, length-append}
+use Rattle.std.proofs.Common.{append-nil, ◌≡◌, ℕ, ◌+◌, ◌≤◌, Bool, true, false, List, [], ◌∷◌, ◌++◌, length, take, drop, refl, sym, ◌∙◌, ap, subst, arith, length-append}
 use Rattle.std.specs.Prelude.{Some, None, nat_lt}
 use Rattle.std.proofs.lemmas.Bool.{eqb-true}
 use Rattle.std.proofs.lemmas.Bool.Decides.{nat_tests}
-use Rattle.std.proofs.lemmas.Grind.{common_steps}
-use Rattle.std.proofs.lemmas.List.{length-take}
+use Rattle.std.proofs.lemmas.List.{length-take, take-append-drop}
 use Rattle.conda_base.specs.declared.actor.Actor.{Actor}
 use Rattle.schedule_log.specs.declared.line.BadLine.{BadLine}
 use Rattle.schedule_log.specs.declared.line.Reading.{Reading}
 use Rattle.schedule_log.specs.declared.line.Reading.TheVariants as Reading_is
 use Rattle.schedule_log.specs.Schedule.{is_feed, is_last_line}
 use Rattle.schedule_log.specs.Grammar.{reading}
-use Rattle.schedule_log.specs.Findings.{Finding, Asks, Fails, Progress, shown, answer_at, Feeds, IsBegun, feeds_in}
+use Rattle.schedule_log.specs.Findings.{Finding, Asks, Fails, Progress, shown, answer_at, Feeds, IsBegun, feeds_in, finds}
 use Rattle.schedule_log.specs.Steps.{after_line, after_byte, said_at}
 use Rattle.schedule_log.specs.declared.fed.Fed.TheVariants as Fed_is
-use Rattle.schedule_log.proofs.FeedLemmas.{any_more, judged_part, nothing_after, feeds_join, feeds_byte, feeds_nothing}
+use Rattle.schedule_log.proofs.FeedLemmas.{any_more, judged_part, feeds_join, feeds_byte, feeds_nothing}
 
 -- a reader that has taken a part of a piece, and met no event and no bad line in it
 pub record Walks (start : Progress) (part : List ℕ) (now : Progress) : Type 0 where
@@ -89,15 +88,9 @@ walks_on start s part byte w is =
       begun = grows.begun;
     }
 
--- a whole piece, as the part taken and the rest
-pub split_at : (piece : List ℕ) (u : ℕ) → piece ≡ take u piece ++ drop u piece
-split_at [] u = grind (arith, common_steps)
-split_at (byte ∷ piece) zero = refl
-split_at (byte ∷ piece) (suc u) = ap (λ rest. byte ∷ rest) (split_at piece u)
-
 -- what a piece shows, after a part of it
 pub shown_after : (start t : Progress) (piece : List ℕ) (u : ℕ) (given : List Finding) → Feeds start (take u piece) given t → shown start piece ≡ given ++ shown t (drop u piece)
-shown_after start t piece u given f = ap (shown start) (split_at piece u) ∙ f.whole true (drop u piece)
+shown_after start t piece u given f = ap (shown start) (sym (take-append-drop u piece)) ∙ f.whole true (drop u piece)
 
 -- a line with events is ended by a line feed
 pub events_end : (s : Progress) (byte : ℕ) (actor : Actor) (count : ℕ) → said_at s byte ≡ Reading_is.Events actor count → byte ≡ 10
@@ -128,8 +121,14 @@ walks_events start s part byte actor count w is =
 pub answer_events : (start t : Progress) (piece : List ℕ) (u : ℕ) (actor : Actor) (count : ℕ) → Feeds start (take u piece) (Asks actor count ∷ []) t → Fed_is.Events actor count u ≡ answer_at u (shown start piece)
 answer_events start t piece u actor count f = sym (ap (answer_at u) (shown_after start t piece u (Asks actor count ∷ []) f))
 
+-- a bad line is all that is found after it
+pub bad_finds : (more : Bool) (t : Progress) (bad : BadLine) (rest : List ℕ) → t.bad ≡ Some bad → finds more t rest ≡ Fails bad.line bad.why ∷ []
+unfolding finds
+bad_finds more t bad rest is = rw is refl
+
 -- nothing follows a bad line
 pub feeds_bad : (t : Progress) (bad : BadLine) (rest : List ℕ) → t.bad ≡ Some bad → Feeds t rest [] t
+unfolding finds
 feeds_bad t bad rest is = record { whole = λ more later. rw is refl }
 
 pub bad_state : (s : Progress) (byte why : ℕ) → said_at s byte ≡ Reading_is.Bad why → (after_byte s byte).bad ≡ Some (record { line = s.ended + 1; why = why })
@@ -166,22 +165,23 @@ walks_bad start s piece i byte why w next is =
     let part : Feeds start (take i piece ++ byte ∷ []) [] t = feeds_join start s t (take i piece) (byte ∷ []) [] [] w.feeds step in
     let same : Feeds start (take (i + 1) piece) [] t = rw next part in
     let whole : Feeds start (take (i + 1) piece ++ drop (i + 1) piece) [] t = feeds_join start t t (take (i + 1) piece) (drop (i + 1) piece) [] [] same (feeds_bad t _ (drop (i + 1) piece) (bad_state s byte why is)) in
-    subst (λ text. Feeds start text [] t) (sym (split_at piece (i + 1))) whole
+    subst (λ text. Feeds start text [] t) (take-append-drop (i + 1) piece) whole
 
 pub answer_bad : (start t : Progress) (piece : List ℕ) (u line why : ℕ) → Feeds start piece [] t → t.bad ≡ Some (record { line = line; why = why }) → Fed_is.Bad line why ≡ answer_at u (shown start piece)
 answer_bad start t piece u line why f is =
-    let shows : shown start piece ≡ Fails line why ∷ [] = ap (shown start) (sym (nothing_after piece)) ∙ f.whole true [] ∙ rw is refl in
+    let shows : shown start piece ≡ Fails line why ∷ [] = ap (shown start) (sym (append-nil piece)) ∙ f.whole true [] ∙ bad_finds true t (record { line = line; why = why }) [] is in
     rw shows refl
 
 -- a line begun shows nothing yet
 pub shows_nothing : (s : Progress) → s.bad ≡ None → IsBegun s.begun → shown s [] ≡ []
+unfolding finds
 shows_nothing s good begun =
     let no_part : is_last_line true s.begun ≡ false = grind (arith, nat_tests, begun.short) in
-    rw good (rw (nothing_after s.begun) (rw (judged_part true s.begun begun.no_feed) (rw no_part refl)))
+    rw good (rw (append-nil s.begun) (rw (judged_part true s.begun begun.no_feed) (rw no_part refl)))
 
 pub answer_more : (start s : Progress) (piece : List ℕ) (u : ℕ) → Feeds start piece [] s → s.bad ≡ None → IsBegun s.begun → Fed_is.More u ≡ answer_at u (shown start piece)
 answer_more start s piece u f good begun =
-    let shows : shown start piece ≡ [] = ap (shown start) (sym (nothing_after piece)) ∙ f.whole true [] ∙ shows_nothing s good begun in
+    let shows : shown start piece ≡ [] = ap (shown start) (sym (append-nil piece)) ∙ f.whole true [] ∙ shows_nothing s good begun in
     rw shows refl
 
 -- a part of a piece has no more line feeds than its length says

@@ -52,7 +52,7 @@ unless_bad (Some bad) found = Fails bad.line bad.why ∷ []
 
 -- What a reader finds in the text that follows. Where more is to come after that text, its last part counts only
 -- once it is too long for a line.
-abbrev pub finds : Bool → Progress → List ℕ → List Finding
+unfoldable pub finds : Bool → Progress → List ℕ → List Finding
 finds more progress text = unless_bad progress.bad (found_from progress.harts progress.cores (progress.ended + 1) (judged_lines more (progress.begun ++ text)))
 
 -- what a piece shows, whatever comes after it

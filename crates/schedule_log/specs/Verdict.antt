@@ -24,7 +24,7 @@ events_of (Asks actor count ∷ later) = replicate count actor ++ events_of late
 events_of (Fails line why ∷ later) = []
 
 -- the events of a schedule
-abbrev pub events : ℕ → ℕ → List ℕ → List Actor
+unfoldable pub events : ℕ → ℕ → List ℕ → List Actor
 events harts cores bytes = events_of (findings harts cores bytes)
 
 -- a schedule with more bytes than are judged
@@ -42,9 +42,13 @@ verdict_after run at_end [] = at_end
 verdict_after run at_end (Asks actor count ∷ later) = if nat_le (run + count) most_events then verdict_after (run + count) at_end later else TooLarge most_events
 verdict_after run at_end (Fails line why ∷ later) = BadLine line why
 
+-- the verdict where the lines within the limit are good
+abbrev pub verdict_at_end : List ℕ → Verdict
+verdict_at_end bytes = if is_too_long bytes then TooLarge most_bytes else Fine
+
 -- the verdict on a schedule: its lines come first, then its length
-abbrev pub schedule_verdict : ℕ → ℕ → List ℕ → Verdict
-schedule_verdict harts cores bytes = verdict_after 0 (if is_too_long bytes then TooLarge most_bytes else Fine) (judged_findings harts cores bytes)
+unfoldable pub schedule_verdict : ℕ → ℕ → List ℕ → Verdict
+schedule_verdict harts cores bytes = verdict_after 0 (verdict_at_end bytes) (judged_findings harts cores bytes)
 
 -- the events of lines that run after so many others: none of a line that passes the limit, and none after it
 abbrev pub good_after : ℕ → List Finding → List Actor
@@ -53,5 +57,5 @@ good_after run (Asks actor count ∷ later) = if nat_le (run + count) most_event
 good_after run (Fails line why ∷ later) = []
 
 -- the events of a schedule that run
-abbrev pub good : ℕ → ℕ → List ℕ → List Actor
+unfoldable pub good : ℕ → ℕ → List ℕ → List Actor
 good harts cores bytes = good_after 0 (judged_findings harts cores bytes)

@@ -1,5 +1,6 @@
-use Rattle.std.proofs.Common.{refl, sym, ap, ◌∙◌}
+use Rattle.std.proofs.Common.{refl, sym, ap, rules, ◌∙◌}
 use Rattle.schedule_log.specs.declared.line.Reading.TheVariants as Reading_is
+use Rattle.schedule_log.specs.Findings.{finds}
 use Rattle.schedule_log.specs.Grammar.{reading}
 use Rattle.schedule_log.proofs.EndLemmas.{left_said, blank_line}
 use Rattle.schedule_log.proofs.reader.Reader.end.Goals as goal
@@ -27,3 +28,7 @@ returns-in-Blank-clause-nothing c =
     let r = c.self.inside in
     let is = ap (reading r.harts r.cores) (sym c.as_slice.ensures.value) ∙ sym c.read_whole.ensures ∙ c.in-Blank.is in
     rw (← c.self.view_is) ((λ _. record { good = c.in_default.is; rest = blank_line r.harts r.cores r.begun.items is }), (λ _. refl))
+
+pub returns-in-Some-clause-said : goal.returns-in-Some-clause-said
+unfolding finds
+returns-in-Some-clause-said c = search rules

@@ -1,10 +1,20 @@
-use Rattle.std.proofs.Common.{◌≡◌, ◌+◌, ◌-◌, ◌≤◌, [], length, take, get_or, Some, sym, ap, ◌∙◌, arith}
+use Rattle.std.proofs.Common.{rules, refl, ◌≡◌, ◌+◌, ◌-◌, ◌≤◌, [], length, take, get_or, Some, sym, ap, ◌∙◌, arith}
 use Rattle.std.proofs.lemmas.List.{take_more}
 use Rattle.std.proofs.lemmas.Option.{slice_get-get_or}
 use Rattle.std.proofs.Math.Seq.{take-length}
-use Rattle.schedule_log.specs.Findings.{feeds_in, Feeds, Progress}
+use Rattle.schedule_log.specs.Findings.{answer_at, finds, feeds_in, Feeds, Progress}
+use Rattle.schedule_log.specs.declared.fed.Fed.TheVariants as Fed_is
+use Rattle.schedule_log.proofs.AnswerLemmas.{tells_bad, wants_more}
 use Rattle.schedule_log.proofs.WalkLemmas.{feeds_in_taken, walks_on, walks_events, walks_bad, answer_events, answer_bad, answer_more, bad_ended, bad_line_at, events_end}
 use Rattle.schedule_log.proofs.reader.Reader.feed.Goals as goal
+
+pub returns-in-Some-clause-feeds : goal.returns-in-Some-clause-feeds
+unfolding finds
+returns-in-Some-clause-feeds c = search rules
+
+pub returns-in-Some-clause-answer : goal.returns-in-Some-clause-answer
+unfolding finds
+returns-in-Some-clause-answer c = search rules
 
 pub take-requires : goal.take-requires
 take-requires c =
@@ -70,3 +80,36 @@ returns-in-Bad-clause-few c =
 
 pub returns-clause-few : goal.returns-clause-few
 returns-clause-few c = omega (arith, c.loop-index.invariant.ended, feeds_in_taken c.args.piece.now c.loop-index.index)
+
+pub returns-in-Some-clause-more : goal.returns-in-Some-clause-more
+returns-in-Some-clause-more c =
+    let whole = length c.args.piece.now in
+    wants_more c.args.self.now c.args.piece.now _ whole whole (returns-in-Some-clause-answer c) (λ none. refl)
+
+pub returns-in-Some-clause-bad_line : goal.returns-in-Some-clause-bad_line
+returns-in-Some-clause-bad_line c = tells_bad c.args.self.now c.args.piece.now _ (length c.args.piece.now) (returns-in-Some-clause-answer c)
+
+pub returns-in-Events-clause-more : goal.returns-in-Events-clause-more
+returns-in-Events-clause-more c =
+    let used = c.loop-index.index + 1 in
+    wants_more c.args.self.now c.args.piece.now _ used (length c.args.piece.now) (returns-in-Events-clause-answer c)
+    (λ none. let never : Fed_is.Events c.in-Events.actor c.in-Events.count used ≡ Fed_is.More used = returns-in-Events-clause-answer c ∙ ap (answer_at used) none in absurd (cc))
+
+pub returns-in-Events-clause-bad_line : goal.returns-in-Events-clause-bad_line
+returns-in-Events-clause-bad_line c = tells_bad c.args.self.now c.args.piece.now _ (c.loop-index.index + 1) (returns-in-Events-clause-answer c)
+
+pub returns-in-Bad-clause-more : goal.returns-in-Bad-clause-more
+returns-in-Bad-clause-more c =
+    let whole = length c.args.piece.now in
+    wants_more c.args.self.now c.args.piece.now _ whole whole (returns-in-Bad-clause-answer c) (λ none. refl)
+
+pub returns-in-Bad-clause-bad_line : goal.returns-in-Bad-clause-bad_line
+returns-in-Bad-clause-bad_line c = tells_bad c.args.self.now c.args.piece.now _ (length c.args.piece.now) (returns-in-Bad-clause-answer c)
+
+pub returns-clause-more : goal.returns-clause-more
+returns-clause-more c =
+    let whole = length c.args.piece.now in
+    wants_more c.args.self.now c.args.piece.now _ whole whole (returns-clause-answer c) (λ none. refl)
+
+pub returns-clause-bad_line : goal.returns-clause-bad_line
+returns-clause-bad_line c = tells_bad c.args.self.now c.args.piece.now _ (length c.args.piece.now) (returns-clause-answer c)
