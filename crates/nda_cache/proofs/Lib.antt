@@ -1,0 +1,4 @@
+pub mod IndexFacts
+pub mod LineFacts
+pub mod SetFacts
+pub mod TriedFacts

@@ -1,0 +1,311 @@
+// The lines of a try.
+ghost use Rattle.std.specs.Prelude.{
+  ℕ,
+  ◌≡◌,
+  ◌+◌,
+  ◌-◌,
+  ◌%◌,
+  ◌<◌,
+  ◌≤◌,
+  ◌⊎◌,
+  ◌↔◌,
+  ◌==◌,
+  ◌++◌,
+  ◌∷◌,
+  take,
+  replicate,
+  true,
+  false,
+  length,
+  slice_get,
+  IfOk,
+  IsTrue,
+  Some,
+  None,
+};
+ghost use Rattle.std.specs.Option.{option_map};
+ghost use Rattle.conda_base.specs.Bytes.{value_at};
+ghost use Rattle.conda_base.specs.Lines.{IsLineSize, IsAccessSize, line_offset};
+ghost use Rattle.conda_base.specs.Marks.{mixed};
+ghost use Rattle.write_masks.specs.Marks.{Covers};
+ghost use Rattle.set_assoc.specs.SetLists.{list_of, with_list};
+ghost use Rattle.nda_cache.specs.Index.{find};
+ghost use Rattle.nda_cache.specs.Tried.{HasRoom, IsTried, empty, filled_from, known_of, line_at, put_line, Stores, Writes};
+
+use conda_base::{Line, line_of, offset_of};
+use set_assoc::Sets;
+use std::alloc::{AllocError, Global};
+use std::marker::Model;
+use write_masks::Masked;
+
+/// The lines of a try. None leaves before the cache is cleared, and after `new` it takes no memory.
+#[derive(Drop)]
+pub struct NdaCache {
+    line_bytes: u32,
+    sets: u32,
+    ways: u32,
+    index: Sets<u16>,
+    lines: Vec<(Line, Masked)>,
+    stored: Vec<Line>,
+}
+
+impl Model for NdaCache {
+    ghost use Rattle.std.specs.Prelude.{◌*◌, ◌≤◌};
+    ghost use Rattle.std.specs.Vec.{vec_capacity};
+    ghost use Rattle.nda_cache.specs.Tried.{Tried};
+    ghost use Rattle.nda_cache.specs.Index.{IsStore};
+
+    ghost Value = { Tried };
+
+    ghost view = { λ c. record { line_bytes = c.line_bytes; sets = c.sets; ways = c.ways; lines = c.lines.items; stored = c.stored.items } };
+
+    ghost invariant = { λ c. IsStore c.line_bytes c.sets c.ways c.index c.lines.items c.stored.items × (c.sets * c.ways ≤ vec_capacity c.lines) × (c.sets * c.ways ≤ vec_capacity c.stored) };
+}
+
+impl NdaCache {
+    /// An empty cache with 1 to 256 sets of 1 to 8 ways. All its memory is taken here.
+    pub fn new(alloc: Global, line_bytes: u32, sets: u32, ways: u32) -> Result<NdaCache, AllocError>
+        requires size { IsLineSize line_bytes }
+        requires some_sets { 0 < sets }
+        requires few_sets { sets ≤ 256 }
+        requires some_ways { 0 < ways }
+        requires few_ways { ways ≤ 8 }
+        ensures { IfOk result (λ c. c ≡ empty line_bytes sets ways) }
+    {
+        let total = (sets * ways) as usize;
+        let index = Sets::new(alloc, sets, ways)?;
+        let lines = Vec::with_capacity(alloc, total)?;
+        let stored = Vec::with_capacity(alloc, total)?;
+        Ok(NdaCache {
+            line_bytes,
+            sets,
+            ways,
+            index,
+            lines,
+            stored,
+        })
+    }
+
+    /// Whether a line is there or its set isn't full.
+    pub fn room(&self, l: Line) -> bool
+        ensures room { IsTrue result ↔ HasRoom self.now l }
+        ensures kept { IsTried self.now }
+    {
+        self.index.peek(l).is_some() || !self.index.is_full(l)
+    }
+
+    /// Whether each byte of an access was stored.
+    pub fn covered(&self, addr: u32, size: u8) -> bool
+        requires size { IsAccessSize size }
+        requires aligned { addr % size ≡ 0 }
+        ensures { IsTrue result ↔ Covers (known_of self.now (line_at self.now addr)).mask (line_offset addr self.now.line_bytes) size }
+    {
+        let line_bytes = self.line_bytes;
+        self.covered_at(line_of(addr, line_bytes), offset_of(addr, line_bytes), size)
+    }
+
+    // Whether each byte of an access to a line was stored.
+    fn covered_at(&self, l: Line, offset: usize, size: u8) -> bool
+        requires size { IsAccessSize size }
+        requires within { offset + size ≤ self.now.line_bytes }
+        ensures { IsTrue result ↔ Covers (known_of self.now l).mask offset size }
+    {
+        match self.index.peek(l) {
+            Some(place) => self.lines[place as usize].1.covers(offset, size),
+            None => false,
+        }
+    }
+
+    /// Whether a line was filled since the last clear.
+    pub fn filled(&self, l: Line) -> bool
+        ensures { result ≡ (known_of self.now l).filled }
+    {
+        match self.index.peek(l) {
+            Some(place) => self.lines[place as usize].1.filled,
+            None => false,
+        }
+    }
+
+    /// Fills a line from a copy of it. The bytes that were stored stay.
+    pub fn fill(&mut self, l: Line, from: &[u8; 128])
+        requires room { HasRoom self.old l }
+        requires unfilled { (known_of self.old l).filled ≡ false }
+        ensures { let line = filled_from self.old.line_bytes (known_of self.old l) from.now in
+            self.new ≡ record self.old { lines = put_line l line self.old.lines } }
+    {
+        let place = self.place_for(l);
+        let copy = first_bytes(from, self.line_bytes as usize);
+        fill_line(&mut self.lines[place], &copy);
+    }
+
+    /// The little-endian number of 1, 2 or 4 bytes at an aligned address, whose bytes were filled or stored.
+    pub fn read(&self, addr: u32, size: u8) -> u32
+        requires size { IsAccessSize size }
+        requires aligned { addr % size ≡ 0 }
+        requires known { ((known_of self.now (line_at self.now addr)).filled ≡ true)
+            ⊎ Covers (known_of self.now (line_at self.now addr)).mask (line_offset addr self.now.line_bytes) size }
+        ensures { result ≡ value_at (known_of self.now (line_at self.now addr)).bytes (line_offset addr self.now.line_bytes) size }
+    {
+        let line_bytes = self.line_bytes;
+        self.read_at(line_of(addr, line_bytes), offset_of(addr, line_bytes), size)
+    }
+
+    // The number at a place in a line, whose bytes were filled or stored.
+    fn read_at(&self, l: Line, offset: usize, size: u8) -> u32
+        requires size { IsAccessSize size }
+        requires within { offset + size ≤ self.now.line_bytes }
+        requires known { ((known_of self.now l).filled ≡ true) ⊎ Covers (known_of self.now l).mask offset size }
+        ensures { result ≡ value_at (known_of self.now l).bytes offset size }
+    {
+        let place = self.index.peek(l).unwrap();
+        self.lines[place as usize].1.get(offset, size)
+    }
+
+    /// Stores the low 1, 2 or 4 bytes of a number, the lowest first, at an aligned address, and marks them.
+    pub fn write(&mut self, addr: u32, size: u8, value: u32)
+        requires size { IsAccessSize size }
+        requires aligned { addr % size ≡ 0 }
+        requires room { HasRoom self.old (line_at self.old addr) }
+        ensures { Writes self.old self.new (line_at self.old addr) (line_offset addr self.old.line_bytes) size value }
+    {
+        let line_bytes = self.line_bytes;
+        self.write_at(
+            line_of(addr, line_bytes),
+            offset_of(addr, line_bytes),
+            size,
+            value,
+        );
+    }
+
+    // Stores a number at a place in a line, and marks its bytes.
+    fn write_at(&mut self, l: Line, offset: usize, size: u8, value: u32)
+        requires size { IsAccessSize size }
+        requires within { offset + size ≤ self.old.line_bytes }
+        requires room { HasRoom self.old l }
+        ensures { Writes self.old self.new l offset size value }
+    {
+        let place = self.place_for(l);
+        let first = put_value(&mut self.lines[place], offset, size, value);
+        if first {
+            self.stored.push_reserved(l);
+        }
+    }
+
+    // The place of a line, which is put behind the others where it isn't there.
+    fn place_for(&mut self, l: Line) -> usize
+        requires { HasRoom self.old l }
+        ensures lines { self.new ≡ record self.old { lines = put_line l (known_of self.old l) self.old.lines } }
+        ensures place { slice_get self.new.lines result ≡ Some (l, known_of self.old l) }
+        ensures within { result < length self.new.lines }
+    {
+        match self.index.peek(l) {
+            Some(place) => place as usize,
+            None => {
+                let place = self.lines.len();
+                put_in(&mut self.index, l, place as u16);
+                self.lines.push_reserved((l, Masked::empty()));
+                place
+            }
+        }
+    }
+
+    /// A stored line with its bytes and marks, by the order of first stores.
+    pub fn written(&self, place: usize) -> Option<(Line, Masked)>
+        ensures { result ≡ option_map (λ l. (l, known_of self.now l)) (slice_get self.now.stored place) }
+    {
+        let l = nth_line(&self.stored, place)?;
+        let place = self.index.peek(l).unwrap();
+        Some(self.lines[place as usize])
+    }
+
+    /// Takes every line out.
+    pub fn clear(&mut self)
+        ensures { self.new ≡ empty self.old.line_bytes self.old.sets self.old.ways }
+    {
+        self.index.clear();
+        self.lines.clear();
+        self.stored.clear();
+    }
+}
+
+// Puts a line in front of its set, which has room for it.
+fn put_in(index: &mut Sets<u16>, l: Line, place: u16)
+    requires absent { find index.old l ≡ None }
+    requires room { length (list_of index.old l) < index.old.ways }
+    ensures { index.new ≡ with_list index.old l ((l, place) ∷ list_of index.old l) }
+{
+    index.add(l, place);
+}
+
+// The line at a place of a list.
+fn nth_line(lines: &[Line], place: usize) -> Option<Line>
+    ensures { result ≡ slice_get lines.now place }
+{
+    lines.get(place).copied()
+}
+
+// The first `size` bytes of a copy of a line, and zeros after them.
+fn first_bytes(from: &[u8; 128], size: usize) -> [u8; 128]
+    requires { size ≤ 128 }
+    ensures { result ≡ take size from.now ++ replicate (128 - size) 0 }
+{
+    let mut copy = *from;
+    copy[size..].fill(0);
+    copy
+}
+
+// Fills a line from a copy of it.
+fn fill_line(entry: &mut (Line, Masked), copy: &[u8; 128])
+    requires { entry.old.1.filled ≡ false }
+    ensures { entry.new ≡ (entry.old.0, record { bytes = mixed entry.old.1.mask entry.old.1.bytes copy.now; mask = entry.old.1.mask; filled = true }) }
+{
+    entry.1.fill(copy);
+}
+
+// Stores a number into a line, and tells whether it is the first one.
+fn put_value(entry: &mut (Line, Masked), offset: usize, size: u8, value: u32) -> bool
+    requires size { IsAccessSize size }
+    requires within { offset + size ≤ 128 }
+    ensures first { result ≡ (entry.old.1.mask == 0) }
+    ensures line { entry.new.0 ≡ entry.old.0 }
+    ensures stores { Stores entry.old.1 entry.new.1 offset size value }
+{
+    let first = entry.1.mask == 0;
+    entry.1.put(offset, size, value);
+    first
+}
+
+#[cfg(test)]
+mod tests {
+    use super::*;
+
+    #[test]
+    fn a_stored_byte_hides_a_filled_one(rt: HostRuntime) -> Result<(), AllocError> {
+        let mut cache = NdaCache::new(rt.alloc(), 32, 1, 2)?;
+        assert!(rt; cache.room(Line(0)));
+        cache.write(4, 2, 0xabcd);
+        assert!(rt; cache.covered(4, 2));
+        assert!(rt; !cache.covered(4, 4));
+        assert!(rt; cache.room(Line(0)));
+        assert!(rt; !cache.filled(Line(0)));
+        cache.fill(Line(0), &[7; 128]);
+        assert!(rt; cache.filled(Line(0)));
+        assert_eq!(rt; cache.read(4, 4), 0x0707_abcd);
+        Ok(())
+    }
+
+    #[test]
+    fn stored_lines_stand_in_order(rt: HostRuntime) -> Result<(), AllocError> {
+        let mut cache = NdaCache::new(rt.alloc(), 32, 1, 2)?;
+        assert!(rt; cache.room(Line(1)));
+        cache.write(32, 1, 3);
+        assert_eq!(rt;
+            cache.written(0).map(|(line, masked)| (line, masked.mask)),
+            Some((Line(1), 1))
+        );
+        assert!(rt; cache.written(1).is_none());
+        cache.clear();
+        assert!(rt; cache.written(0).is_none());
+        Ok(())
+    }
+}
