@@ -1,10 +1,8 @@
 -- The outcome of an event of a hart that runs, by its plan.
-use Rattle.std.proofs.Common.{◌≡◌, ℕ, Bool, true, false, List, [], refl, sym, ap, ◌∙◌, cond, not, ◌&&◌, Result, Ok, Err}
+use Rattle.std.proofs.Common.{◌≡◌, ℕ, true, false, [], refl, Ok, Err}
 use Rattle.std.specs.Prelude.{slice_get}
 use Rattle.rv32_hart.specs.declared.regs.Trap.{Trap}
 use Rattle.rv32_hart.specs.declared.act.Planned.{Planned}
-use Rattle.rv32_hart.specs.declared.act.Access.{Access}
-use Rattle.rv32_hart.specs.declared.act.Access.TheVariants as Access_is
 use Rattle.rv32_hart.specs.Act.{plan_of, after, is_call_access}
 use Rattle.rv32_hart.specs.Code.{CodeView}
 use Rattle.conda_base.specs.declared.actor.Actor.TheVariants as Actor_is

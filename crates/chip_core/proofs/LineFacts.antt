@@ -1,5 +1,5 @@
 -- Lines of a chip's memory.
-use Rattle.std.proofs.Common.{◌≡◌, ◌+◌, ◌*◌, ◌≤◌, ◌^◌, ◌<◌, ℕ, length, sym, ap, arith}
+use Rattle.std.proofs.Common.{◌+◌, ◌*◌, ◌≤◌, ◌^◌, ◌<◌, ℕ, length, arith}
 use Rattle.conda_base.specs.Lines.{IsLineOf, IsWhole}
 use Rattle.conda_base.proofs.LineLemmas.{line_bytes_in_memory, line_size_positive}
 use Rattle.rv32_hart.specs.Code.{IsCode}

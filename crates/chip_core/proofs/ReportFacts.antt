@@ -1,15 +1,13 @@
 -- The report of a chip is that of the events that it stands for.
-use Rattle.std.proofs.Common.{◌≡◌, ℕ, zero, suc, ◌<◌, List, ◌++◌, length, slice_get, refl, sym, ap, ◌∙◌, arith, cond, Some, None}
+use Rattle.std.proofs.Common.{◌≡◌, ℕ, zero, suc, ◌<◌, List, ◌++◌, slice_get, refl, ap, ◌∙◌, arith, cond, Some, None}
 use Rattle.std.proofs.lemmas.Bool.{lt-ltb}
 use Rattle.std.proofs.lemmas.Option.{get_or_from_slice_get}
 use Rattle.rv32_hart.specs.Code.{CodeView}
 use Rattle.rv32_hart.specs.Regs.{start_regs}
-use Rattle.offload_calls.specs.declared.status.Hart.{Hart}
 use Rattle.offload_calls.specs.declared.status.CoreStatus.TheVariants as Core_is
-use Rattle.offload_calls.specs.declared.status.Core.{Core}
 use Rattle.offload_calls.specs.State.{Setup, State}
 use Rattle.run_report.specs.View.{View}
-use Rattle.run_report.specs.Texts.{report_text, texts_below, hart_text, core_text, harts_text, cores_text, changes_text, changed_text, head_text}
+use Rattle.run_report.specs.Texts.{report_text, texts_below, hart_text, core_text, harts_text, cores_text, changes_text, changed_text}
 use Rattle.chip_core.specs.ChipView.{ChipView}
 use Rattle.chip_core.specs.Reports.{view_of_chip, view_of_state}
 use Rattle.chip_core.specs.Stands.{Shows}

@@ -1,5 +1,5 @@
 -- One event of a chip and of the flat state that it shows.
-use Rattle.std.proofs.Common.{◌≡◌, ◌≢◌, ℕ, ◌<◌, List, [], ◌∷◌, ◌++◌, take, drop, Bool, true, false, not, ◌&&◌, length, set, refl, sym, ap, ◌∙◌, subst, cond, eqb, ltb, arith, append-nil, Option, Some, None, length-set}
+use Rattle.std.proofs.Common.{◌≡◌, ℕ, ◌<◌, List, [], ◌++◌, take, drop, Bool, true, false, not, ◌&&◌, length, set, refl, sym, ap, ◌∙◌, subst, cond, eqb, ltb, arith, append-nil, Option, Some, None, length-set}
 use Rattle.std.specs.Prelude.{slice_get}
 use Rattle.std.proofs.Math.Path.{fun_ext}
 use Rattle.std.proofs.lemmas.Bool.{eqb-true, eqb-false, cond_both}
@@ -20,10 +20,9 @@ use Rattle.offload_calls.specs.HartAct.{HartEffect, CoreChange, Stays, Starts, R
 use Rattle.run_report.specs.Runs.{executed}
 use Rattle.chip_core.specs.Acts.{Parts, Outcome, event_outcome, parts_after, effect_on, after_event, hart_entry, changed_statuses, changed_registers}
 use Rattle.chip_core.specs.ChipView.{ChipView, IsWholeLines, IsChip, has}
-use Rattle.chip_core.specs.Runs.{next, happens, flat}
-use Rattle.chip_core.specs.Stands.{Shows, Stands}
+use Rattle.chip_core.specs.Runs.{next, happens}
+use Rattle.chip_core.specs.Stands.{Shows}
 use Rattle.chip_core.proofs.ListFacts.{slice_get-set_same, slice_get-set_other, set-shows}
-use Rattle.chip_core.proofs.RunFacts.{flat-push}
 
 -- ---- near-data cores that an act changes
 

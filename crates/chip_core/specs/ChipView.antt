@@ -4,7 +4,7 @@ use Rattle.conda_base.specs.Lines.{IsLineSize, IsWhole}
 use Rattle.conda_base.specs.declared.actor.Actor.{Actor}
 use Rattle.conda_base.specs.declared.actor.Actor.TheVariants as Actor_is
 use Rattle.rv32_hart.specs.declared.regs.Regs.{Regs}
-use Rattle.rv32_hart.specs.Code.{CodeView, IsCode}
+use Rattle.rv32_hart.specs.Code.{CodeView}
 use Rattle.offload_calls.specs.declared.status.CoreStatus.{CoreStatus}
 use Rattle.offload_calls.specs.declared.status.Hart.{Hart}
 

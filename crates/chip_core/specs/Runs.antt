@@ -1,5 +1,5 @@
 -- Events, journals and the flat states that they lead to. A schedule is a list of actors, one for each event.
-use Rattle.std.specs.Prelude.{List, [], ◌∷◌, if◌then◌else◌}
+use Rattle.std.specs.Prelude.{List, [], ◌∷◌}
 use Rattle.conda_base.specs.declared.actor.Actor.{Actor}
 use Rattle.conda_base.specs.declared.actor.Actor.TheVariants as Actor_is
 use Rattle.schedule_log.specs.declared.entry.Entry.{Entry}

@@ -1,15 +1,13 @@
 -- Stores laid over memory, and what is read there.
-use Rattle.std.proofs.Common.{◌≡◌, ◌≢◌, ℕ, zero, suc, ◌+◌, ◌-◌, ◌*◌, ◌/◌, ◌%◌, ◌<◌, ◌≤◌, Bool, true, false, List, [], ◌∷◌, ◌++◌, length, set, get_or, take, drop, refl, sym, ap, ◌∙◌, arith, cond, eqb, append_assoc, add-zero, ⊎_elim, length-set, get_or-set_same, get_or-set_other}
+use Rattle.std.proofs.Common.{◌≡◌, ℕ, zero, suc, ◌+◌, ◌-◌, ◌*◌, ◌/◌, ◌%◌, ◌≤◌, List, [], ◌∷◌, ◌++◌, length, set, get_or, take, drop, refl, sym, ap, ◌∙◌, arith, append_assoc, add-zero, ⊎_elim, length-set}
 use Rattle.std.specs.Int.{to_le_bytes, w32}
-use Rattle.std.specs.List.{AllByRecursion}
 use Rattle.std.proofs.Math.Seq.{drop-cons, take-suc-set}
 use Rattle.std.proofs.Math.Nat.{div-div-eq-div-mul}
 use Rattle.std.proofs.lemmas.List.{drop-set-lt, take-append-drop, append-nil}
-use Rattle.std.proofs.lemmas.Bool.{eqb-true, eqb-false}
 use Rattle.conda_base.specs.Bytes.{stored, value_at, number_of}
 use Rattle.conda_base.specs.Lines.{IsAccessSize}
 use Rattle.conda_base.proofs.LineLemmas.{access_size_cases}
-use Rattle.offload_calls.specs.Stores.{bytes_from, overlay, byte_at, latest, number_at}
+use Rattle.offload_calls.specs.Stores.{bytes_from, overlay, byte_at, number_at}
 
 -- ---- the bytes of a number
 

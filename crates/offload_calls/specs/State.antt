@@ -1,6 +1,5 @@
 -- The flat state: one memory, harts, near-data cores and output.
-use Rattle.std.specs.Prelude.{ℕ, ◌==◌, List, [], replicate, slice_set, nat_lt, Option, Some, None, if◌then◌else◌}
-use Rattle.rv32_hart.specs.declared.regs.Regs.{Regs}
+use Rattle.std.specs.Prelude.{ℕ, ◌==◌, List, [], slice_set, nat_lt, Option, Some, None, if◌then◌else◌}
 use Rattle.rv32_hart.specs.Code.{CodeView}
 use Rattle.rv32_hart.specs.Regs.{start_regs}
 use Rattle.offload_calls.specs.declared.status.Hart.{Hart}

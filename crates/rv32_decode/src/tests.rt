@@ -125,3 +125,71 @@ fn words_of_no_row(rt: HostRuntime) {
         assert_eq!(rt; decode(word), None);
     }
 }
+
+// Every row of the tables but FENCE, as another assembler writes it: from lui, auipc, jal and jalr over branches, loads,
+// stores, the operations on immediates and on registers to the atomics, ecall and ebreak.
+const ROWS: [u32; 56] = [
+    0x1234_52b7,
+    0xffff_f317,
+    0x0010_00ef,
+    0xffc3_02e7,
+    0xfe62_8ee3,
+    0x00b5_1463,
+    0x0020_c863,
+    0x0241_d063,
+    0x0462_e063,
+    0xf883_f0e3,
+    0xfff3_0283,
+    0x0024_1383,
+    0x0045_2483,
+    0x7ff6_4583,
+    0x8007_5683,
+    0xfe53_0fa3,
+    0x0074_1123,
+    0x0095_2223,
+    0xff93_0293,
+    0xff93_2293,
+    0x0073_3293,
+    0x0ff3_4293,
+    0x0ff3_6293,
+    0x0ff3_7293,
+    0x01f3_1293,
+    0x01f3_5293,
+    0x41f3_5293,
+    0x0073_02b3,
+    0x4073_02b3,
+    0x0073_12b3,
+    0x0073_22b3,
+    0x0073_32b3,
+    0x0073_42b3,
+    0x0073_52b3,
+    0x4073_52b3,
+    0x0073_62b3,
+    0x0073_72b3,
+    0x0273_02b3,
+    0x0273_12b3,
+    0x0273_22b3,
+    0x0273_32b3,
+    0x0273_42b3,
+    0x0273_52b3,
+    0x0273_62b3,
+    0x0273_72b3,
+    0x0063_a2af,
+    0x0863_a2af,
+    0x2063_a2af,
+    0x4063_a2af,
+    0x6063_a2af,
+    0x8063_a2af,
+    0xa063_a2af,
+    0xc063_a2af,
+    0xe663_a2af,
+    0x0000_0073,
+    0x0010_0073,
+];
+
+#[test]
+fn every_row_is_given_back(rt: HostRuntime) {
+    for word in ROWS {
+        assert!(rt; is_given_back(word));
+    }
+}

@@ -1,5 +1,5 @@
 -- What layers above need of a plan: its access lies in memory, its fields are in their ranges.
-use Rattle.std.proofs.Common.{◌≡◌, ◌+◌, ◌%◌, ◌^◌, ◌<◌, ◌≤◌, ℕ, Bool, false, length, refl, arith, lit<, ap, ◌∙◌, cond, eqb, leb, Option, Some, None, Result}
+use Rattle.std.proofs.Common.{◌≡◌, ◌+◌, ◌%◌, ◌^◌, ◌<◌, ◌≤◌, ℕ, false, length, refl, arith, lit<, ap, ◌∙◌, cond, eqb, leb, Option, Some, None, Result}
 use Rattle.std.specs.Prelude.{IfOk, IfSome, All, List, [], ◌∷◌, zero, suc, take, drop, ◌-◌, ◌*◌, ◌&&◌}
 use Rattle.std.proofs.lemmas.List.Elements.{All-head, All-tail, All-drop}
 use Rattle.conda_base.specs.Bytes.{number_of, value_at}
@@ -18,13 +18,13 @@ use Rattle.rv32_decode.specs.declared.instr.StoreOp.TheVariants.{Sb, Sh, Sw}
 use Rattle.rv32_decode.proofs.GivenBack.{decoded-fields}
 use Rattle.rv32_hart.specs.declared.regs.Regs.{Regs}
 use Rattle.rv32_hart.specs.declared.regs.Trap.{Trap}
-use Rattle.rv32_hart.specs.declared.act.Access.TheVariants.{Nothing, Load, Store, Amo, Call}
+use Rattle.rv32_hart.specs.declared.act.Access.TheVariants.{Nothing, Load, Store, Amo}
 use Rattle.rv32_hart.specs.declared.act.Planned.{Planned}
 use Rattle.rv32_hart.specs.Regs.{IsRegs}
 use Rattle.rv32_hart.specs.Code.{CodeView, IsCode, in_memory, is_fetched, word_at}
 use Rattle.rv32_hart.specs.Arithmetic.{load_size, is_signed, store_size}
 use Rattle.rv32_hart.specs.Act.{IsAccess, IsPlan, StoresWord, plan_of, plan_fetched, plan_decoded, plan_instr, checked, jumps, planned, trapped, address, target_of, target_of_jalr, branches, value_of, is_system}
-use Rattle.rv32_hart.proofs.WordLemmas.{IsWord, low-word}
+use Rattle.rv32_hart.proofs.WordLemmas.{IsWord}
 
 load_size-size : (op : LoadOp) → IsAccessSize (load_size op)
 load_size-size Lb = refl

@@ -1,11 +1,10 @@
 -- What operations make of words are words.
-use Rattle.std.proofs.Common.{◌≡◌, ℕ, zero, suc, ℤ, pos, negsuc, ◌+◌, ◌-◌, ◌*◌, ◌*ℤ◌, ◌/◌, ◌%◌, ◌^◌, ◌<◌, ◌≤◌, Bool, true, false, refl, arith, cond, eqb, ltb, lit<, lit≤}
-use Rattle.std.specs.Prelude.{unsigned_abs, neg_ℤ, int_div, int_rem, bit_and, bit_or, bit_xor}
-use Rattle.std.specs.Int.{w8, w16, w32, w64, cast_signed, cast_unsigned, int_shr}
+use Rattle.std.proofs.Common.{◌≡◌, ℕ, zero, suc, ℤ, pos, negsuc, ◌+◌, ◌-◌, ◌*◌, ◌*ℤ◌, ◌/◌, ◌%◌, ◌^◌, ◌<◌, ◌≤◌, Bool, true, false, refl, arith, cond, eqb, lit<}
+use Rattle.std.specs.Prelude.{unsigned_abs, neg_ℤ, int_div, int_rem}
+use Rattle.std.specs.Int.{w8, w16, cast_signed, int_shr}
 use Rattle.std.specs.Int.Bits.{and_lt, or_lt}
 use Rattle.std.proofs.lemmas.Nat.{xor_lt, mul-lt}
 use Rattle.std.proofs.lemmas.Int.{unsigned_abs-mul}
-use Rattle.std.proofs.lemmas.Bool.{cond_both, ltb-true, ltb-false, eqb-false}
 use Rattle.std.proofs.lemmas.Bool.Decides.{nat_tests}
 use Rattle.std.proofs.Math.Nat.{div-le_self, mod-le, mul-le-mul}
 use Rattle.rv32_decode.specs.Ranges.{ImmFits}
@@ -17,7 +16,7 @@ use Rattle.rv32_decode.specs.declared.instr.RegOp.{RegOp}
 use Rattle.rv32_decode.specs.declared.instr.RegOp.TheVariants.{Add, Sub, Sll, Slt, Sltu, Xor, Srl, Sra, Or, And, Mul, Mulh, Mulhsu, Mulhu, Div, Divu, Rem, Remu}
 use Rattle.rv32_decode.specs.declared.instr.AmoOp.{AmoOp}
 use Rattle.rv32_decode.specs.declared.instr.AmoOp.TheVariants.{Amoadd, Amoswap, Amoxor, Amoor, Amoand, Amomin, Amomax, Amominu, Amomaxu}
-use Rattle.rv32_hart.specs.Arithmetic.{signed, word_of, flag, high_word, sum_of, shifted_left, shifted_right, shifted_right_signed, quotient, quotient_signed, remainder, remainder_signed, imm_result, reg_result, amo_result, extended}
+use Rattle.rv32_hart.specs.Arithmetic.{signed, word_of, flag, high_word, shifted_right_signed, quotient_signed, remainder_signed, imm_result, reg_result, amo_result, extended}
 
 abbrev pub IsWord : ℕ → Type 0
 IsWord n = n < 2 ^ 32

@@ -4,7 +4,6 @@ use Rattle.conda_base.specs.Lines.{IsAccessSize}
 use Rattle.rv32_decode.specs.declared.instr.Instr.{Instr}
 use Rattle.rv32_decode.specs.declared.instr.Instr.TheVariants as Instr_is
 use Rattle.rv32_decode.specs.declared.instr.BranchOp.{BranchOp}
-use Rattle.rv32_decode.specs.declared.instr.AmoOp.{AmoOp}
 use Rattle.rv32_decode.specs.Decoding.{decoded}
 use Rattle.rv32_decode.specs.Ranges.{FieldsFit}
 use Rattle.rv32_hart.specs.declared.regs.Regs.{Regs}

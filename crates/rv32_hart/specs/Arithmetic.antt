@@ -1,6 +1,6 @@
 -- What each operation makes of 32-bit words (RISC-V Unprivileged ISA 20191213, RV32I, M and the word atomics of A).
 use Rattle.std.specs.Prelude.{ℕ, ℤ, pos, ◌+◌, ◌-◌, ◌*◌, ◌*ℤ◌, ◌/◌, ◌%◌, ◌^◌, ◌==◌, Bool, true, false, not, nat_lt, nat_le, int_lt, int_le, int_div, int_rem, bit_and, bit_or, bit_xor, if◌then◌else◌}
-use Rattle.std.specs.Int.{Width, w8, w16, w32, w64, cast_signed, cast_unsigned, int_shr}
+use Rattle.std.specs.Int.{w8, w16, w32, w64, cast_signed, cast_unsigned, int_shr}
 use Rattle.rv32_decode.specs.declared.instr.BranchOp.{BranchOp}
 use Rattle.rv32_decode.specs.declared.instr.BranchOp.TheVariants.{Beq, Bne, Blt, Bge, Bltu, Bgeu}
 use Rattle.rv32_decode.specs.declared.instr.LoadOp.{LoadOp}

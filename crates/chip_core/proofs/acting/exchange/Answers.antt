@@ -1,7 +1,4 @@
-use Rattle.std.proofs.Common.{◌≡◌, ◌+◌, ◌≤◌, length, ap, sym, ◌∙◌, arith, refl}
-use Rattle.rv32_hart.specs.Act.{AccessFits}
-use Rattle.offload_calls.specs.Stores.{overlay}
-use Rattle.offload_calls.specs.Effects.{stores_of_access}
+use Rattle.std.proofs.Common.{◌+◌, ◌≤◌, length, sym, arith}
 use Rattle.offload_calls.proofs.StoreLemmas.{overlay-stored}
 use Rattle.chip_core.proofs.acting.exchange.Goals as goal
 

@@ -1,10 +1,8 @@
-use Rattle.std.proofs.Common.{◌≡◌, true, false, refl, sym, ap, ◌∙◌}
-use Rattle.rv32_hart.specs.declared.regs.Regs.{Regs}
+use Rattle.std.proofs.Common.{◌≡◌, true, refl, sym, ap, ◌∙◌}
 use Rattle.rv32_hart.specs.Act.{after}
-use Rattle.offload_calls.specs.declared.status.Hart.{Hart}
 use Rattle.offload_calls.specs.HartAct.{hart_runs}
 use Rattle.chip_core.specs.Acts.{parts_of}
-use Rattle.chip_core.proofs.EventFacts.{ended_outcome, trap_outcome, plain_outcome, waiting_outcome, served_outcome, status_of_running}
+use Rattle.chip_core.proofs.EventFacts.{trap_outcome, plain_outcome, waiting_outcome, served_outcome, status_of_running}
 use Rattle.chip_core.proofs.acting.hart_event.Goals as goal
 
 pub returns-in-Err : goal.returns-in-Err

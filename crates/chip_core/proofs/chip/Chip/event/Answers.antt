@@ -1,12 +1,11 @@
-use Rattle.std.proofs.Common.{◌≡◌, ◌<◌, ◌++◌, ◌∷◌, [], ℕ, List, length, take, drop, set, slice_get, Some, sym, ◌∙◌, ap, refl, subst, arith, IsTrue, append-nil}
+use Rattle.std.proofs.Common.{◌≡◌, ◌<◌, ◌++◌, ◌∷◌, [], ℕ, List, length, take, drop, set, sym, ◌∙◌, ap, refl, subst, arith, IsTrue, append-nil}
 use Rattle.std.proofs.lemmas.Bool.{ltb-true}
 use Rattle.std.proofs.lemmas.Option.{slice_get_read}
 use Rattle.conda_base.specs.declared.actor.Actor.{Actor}
 use Rattle.conda_base.specs.declared.actor.Actor.TheVariants as Actor_is
 use Rattle.offload_calls.specs.State.{Setup, State}
-use Rattle.offload_calls.specs.declared.status.Hart.{Hart}
 use Rattle.chip_core.specs.Acts.{IsOutcome, event_outcome, puts_of_event}
-use Rattle.chip_core.specs.ChipView.{ChipView, IsChip, view_of, has}
+use Rattle.chip_core.specs.ChipView.{ChipView, view_of, has}
 use Rattle.chip_core.specs.Runs.{next, happens, flat}
 use Rattle.chip_core.specs.Stands.{Shows, Stands}
 use Rattle.chip_core.proofs.StandFacts.{Moved, EventShows, parts_at, moved-is_chip, moved-has, event_shows, whole-written}

@@ -1,4 +1,4 @@
-use Rattle.std.proofs.Common.{◌≡◌, ◌<◌, ℕ, length, replicate, slice_get, Some, None, cond, ap, refl, ◌∙◌}
+use Rattle.std.proofs.Common.{length, slice_get, Some, None, cond, ap, refl, ◌∙◌}
 use Rattle.std.proofs.lemmas.List.{length-replicate}
 use Rattle.std.proofs.lemmas.Bool.{lt-ltb}
 use Rattle.offload_calls.specs.State.{start_core}

@@ -1,4 +1,4 @@
-use Rattle.std.proofs.Common.{◌≡◌, ◌+◌, ◌*◌, ◌≤◌, ◌^◌, length, sym, subst, arith}
+use Rattle.std.proofs.Common.{length, sym, subst, arith}
 use Rattle.conda_base.specs.Lines.{IsLineOf}
 use Rattle.chip_core.specs.ChipView.{ChipView, view_of}
 use Rattle.chip_core.proofs.LineFacts.{LiesIn, line_lies}
