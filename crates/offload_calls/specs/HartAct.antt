@@ -121,3 +121,9 @@ hart_step_of s f h hart =
 -- one act of hart h on flat memory
 unfoldable pub hart_step : Setup → State → ℕ → State
 hart_step s f h = hart_step_of s f h (f.harts h)
+
+-- what the next act of hart h stores: nothing where it makes none
+abbrev pub hart_stores : Setup → State → ℕ → List (ℕ × ℕ)
+hart_stores s f h =
+    let cores = status_of s.cores f.cores in
+    if steps s.code cores (f.harts h) then (act_effect s.code cores f.memory (f.harts h).regs).stores else []
