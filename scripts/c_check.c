@@ -110,14 +110,17 @@ static word ackermann(word m, word n) {
     return ackermann(m - 1, n == 0 ? 1 : ackermann(m, n - 1));
 }
 
-// Sums of products and quotients, signed and unsigned.
+// Products and quotients, signed and unsigned, shifts and comparisons.
 static word arithmetic(void) {
     word sum = 0;
     for (int at = 1; at < COUNT; at++) {
         int a = numbers[at - 1], b = numbers[at] | 1;
-        sum += (word)((long long)a * b >> 32) ^ (word)((unsigned long long)(word)a * (word)b >> 32);
-        sum += (word)(a / b) ^ (word)(a % b) ^ (word)a / (word)b ^ (word)a % (word)b;
-        sum = (sum << (at & 31) | sum >> (-at & 31)) + (word)(a >> (at & 31)) + (a < b) + ((word)a < (word)b);
+        word c = (word)a, d = (word)numbers[at] | 2;
+        sum += (word)((long long)a * b >> 32);
+        sum ^= (word)((unsigned long long)c * d >> 32);
+        sum += (word)((long long)b * d >> 32);
+        sum += (word)(a / b) ^ (word)(a % b) ^ c / d ^ c % d;
+        sum = (sum << (at & 31) | sum >> (-at & 31)) + (word)(a >> (at & 31)) + (a < b) + (c < d);
     }
     return sum;
 }
@@ -129,7 +132,7 @@ static word narrow(void) {
         halves[at] = (unsigned short)numbers[COUNT - 1 - at];
     }
     for (int at = 0; at < COUNT; at++)
-        sum = sum * 31 + (word)(bytes[at] + (short)halves[at]) + (unsigned char)bytes[at] + halves[at];
+        sum = sum * 16777619 + (word)(bytes[at] + (short)halves[at]) + (unsigned char)bytes[at] + halves[at];
     return sum;
 }
 
@@ -144,7 +147,9 @@ static word atomic(void) {
         sum ^= place, place ^= operand >> 3;
         sum += place, place |= operand & 0xff0;
         sum ^= place, place &= ~(operand << 9);
-        sum += place, place = sum ^ operand;
+        word was = place;
+        place = sum ^ operand;
+        sum += was;
 #else
         sum += __atomic_fetch_add(&place, operand, __ATOMIC_RELAXED);
         sum ^= __atomic_fetch_xor(&place, operand >> 3, __ATOMIC_ACQUIRE);
