@@ -1,0 +1,7 @@
+pub mod FrameFacts
+pub mod GoingFacts
+pub mod JournalFacts
+pub mod ReadingFacts
+pub mod ReadyFacts
+pub mod RunFacts
+pub mod WriterFacts
