@@ -1,5 +1,5 @@
 -- What a step of a hart keeps, and what it makes of memory.
-use Rattle.std.proofs.Common.{◌≡◌, ◌≢◌, ℕ, zero, suc, ◌+◌, ◌-◌, ◌<◌, ◌≤◌, ◌/◌, ◌%◌, List, [], ◌∷◌, length, set, get_or, refl, sym, ap, ◌∙◌, Bool, true, false, not, ◌&&◌, ◌||◌, cond, eqb, ltb, arith, Option, Some, None, Ok, Err, length-set}
+use Rattle.std.proofs.Common.{◌≡◌, ◌≢◌, ℕ, zero, suc, ◌+◌, ◌-◌, ◌<◌, ◌≤◌, ◌/◌, ◌%◌, List, [], ◌∷◌, length, set, get_or, refl, sym, ap, ◌∙◌, Bool, true, false, not, ◌&&◌, cond, eqb, ltb, arith, Option, Some, None, Ok, Err, length-set}
 use Rattle.std.specs.Prelude.{All, IfOk, Result, is_some}
 use Rattle.std.proofs.lemmas.Bool.{eqb-true, eqb-false, cond_both, or_parts, and_parts, true≢false}
 use Rattle.std.proofs.lemmas.List.{get_or-set_same, get_or-set_other}
@@ -13,7 +13,6 @@ use Rattle.rv32_hart.specs.Code.{CodeView, IsCode}
 use Rattle.rv32_hart.specs.Act.{IsPlan, AccessFits, plan_of, is_call_access, value_of}
 use Rattle.rv32_hart.specs.Arithmetic.{amo_result}
 use Rattle.rv32_hart.proofs.PlanFacts.{plan-fits}
-use Rattle.offload_calls.specs.declared.status.Hart.{Hart}
 use Rattle.offload_calls.specs.declared.status.Core.{Core}
 use Rattle.offload_calls.specs.declared.status.CoreStatus.{CoreStatus}
 use Rattle.offload_calls.specs.declared.status.CoreStatus.TheVariants as Core_is
