@@ -1,160 +1,137 @@
 -- A command, from its words to its files.
-use Rattle.std.proofs.Common.{◌≡◌, ◌≢◌, ◌≤◌, ℕ, List, [], ◌∷◌, length, IsTrue, true, false, refl, sym, ◌∙◌, ap, subst, inl, inr, arith, ◌&&◌}
-use Rattle.std.specs.Prelude.{Bool, Some, None, codes, nat_lt, unwrap_or, if◌then◌else◌}
-use Rattle.std.specs.Str.{bytes_eq}
-use Rattle.std.proofs.lemmas.Bool.Decides.{nat_tests}
-use Rattle.std.proofs.lemmas.Slice.Eq.{bytes_eq-Decides}
+use Rattle.std.proofs.Common.{◌≡◌, ◌≢◌, ℕ, List, [], IsTrue, sym, ◌∙◌, ap, subst, inl, inr}
+use Rattle.std.specs.Prelude.{◌⊎◌, Option, Some, None, IfSome, unwrap_or, take}
 use Rattle.conda_host.specs.declared.outside.Role.{Role}
-use Rattle.conda_host.specs.declared.outside.Role.TheVariants.{Image, Schedule, Order, Report, Output}
-use Rattle.conda_host.specs.State.{HostState, IsLater, IsReading, Rose}
+use Rattle.conda_host.specs.declared.outside.Role.TheVariants as role
+use Rattle.conda_host.specs.State.{HostState, IsLater}
+use Rattle.chip_config.specs.Settings.{configured, settings}
+use Rattle.chip_core.specs.Stands.{Stands}
+use Rattle.offload_calls.specs.State.{Setup}
+use Rattle.command_words.specs.Words.{Files}
 use Rattle.conda_engine.specs.declared.status.Status.{Status}
 use Rattle.conda_engine.specs.declared.status.Status.TheVariants as status
-use Rattle.conda_engine.specs.Command.{CommandOutcome, IsUnmade, IsDone, IsStop, HasStopped, IsComplete, command_texts, verdict_of}
-use Rattle.conda_engine.specs.Outcome.{Outcome, IsAnswerOf, IsDriveEnd, IsRunEnd, Leaves, texts_of}
-use Rattle.conda_engine.specs.Phases.{AreApart, IsFault, HasFront, HoldsFront, KeepsRole, Texts, bytes_of}
-use Rattle.conda_engine.specs.Verdict.{setup_of, verdict, unless_refused, schedule_verdict, image_limit, refusal_of}
-use Rattle.conda_engine.specs.Words.{Files, files_of, are_different, are_values, differs}
-use Rattle.conda_engine.proofs.DriveFacts.{fault_after, caused_after}
+use Rattle.conda_engine.specs.Command.{IsCommandAnswer, IsCommandComplete, aim_of}
+use Rattle.conda_engine.specs.Faults.{bytes_of, IsAnswer, IsCaused}
+use Rattle.conda_engine.specs.Outcome.{Ends, IsDone, IsStop, HasStopped, HasFront, HasFronts, KeepsOthers}
+use Rattle.conda_engine.specs.Preparing.{IsReadyFor, IsUnready, OnlyReads, PreparedView}
+use Rattle.conda_engine.specs.Verdict.{Aim, aim_of_schedule, events_that_run, numbers_of, setup_of, status_of_bytes, status_of_image, status_of_schedule, texts_of_events}
+use Rattle.conda_engine.proofs.DriveFacts.{fault_after, caused_after, complete_of_answer}
+use Rattle.conda_engine.proofs.PrepareFacts.{verdict_of_image, verdict_of_schedule}
 
--- two names that differ
-differ_apart : (a b : List ℕ) → differs a b ≡ true → a ≢ b
-differ_apart a b h e = let same : bytes_eq a b ≡ true = (bytes_eq-Decides a b).1 e in let turned : false ≡ true = rw same at h in cc
+front_after : (a b c : HostState) (r : Role) (name first second : List ℕ) → OnlyReads a b → r ≢ role.Config → r ≢ role.Image → IsLater b c → (IsTrue a.tells → first ≡ second)
+    → HasFront b c r name first → HasFront a c r name second
+front_after a b c r name first second p config image q same h = record {
+  front = λ none is.
+      let held = h.front (ap (λ x. x.created) (p.roles r config image) ∙ none) is in
+      record { count = held.count; front = λ tells. subst (λ t. c.file name ≡ Some (take held.count t)) (same (subst IsTrue p.later.tells (subst IsTrue q.tells tells))) (held.front tells) };
+}
 
-both : (a b : Bool) → (a && b) ≡ true → (a ≡ true) × (b ≡ true)
-both true b h = (refl, h)
-both false b h = cc
+output_front_after : (a b c : HostState) (output : Option (List ℕ)) (first second : List ℕ) → OnlyReads a b → IsLater b c → (IsTrue a.tells → first ≡ second)
+    → IfSome output (λ name. HasFront b c role.Output name first) → IfSome output (λ name. HasFront a c role.Output name second)
+output_front_after a b c None first second p q same h = tt
+output_front_after a b c (Some name) first second p q same h = front_after a b c role.Output name first second p (λ e. cc) (λ e. cc) q same h
 
-apart_of_different : (f : Files) → are_different f ≡ true → AreApart f
-apart_of_different f h =
-    let last = both _ _ h in
-    let order_output = both _ _ last.0 in
-    let order_report = both _ _ order_output.0 in
-    record {
-      order_report = differ_apart f.order f.report order_report.1;
-      order_output = differ_apart f.order f.output order_output.1;
-      report_output = differ_apart f.report f.output last.1;
-    }
-
--- the names that words give are pairwise different
-pub apart_of_files : (words : List (List ℕ)) (files : Files) → files_of words ≡ Some files → AreApart files
-apart_of_files (run ∷ image ∷ schedule ∷ order ∷ report ∷ output ∷ []) files is =
-    let named : Files = record { image = image; schedule = schedule; order = order; report = report; output = output } in
-    go named (bytes_eq run (codes "run") && are_values named) (are_different named) refl is
-  where
-    go : (named : Files) (good apart : Bool) → are_different named ≡ apart → (if good && apart then Some named else None) ≡ Some files → AreApart files
-    go named true true h e = let same : named ≡ files = cc in subst AreApart same (apart_of_different named h)
-    go named true false h e = cc
-    go named false apart h e = cc
-apart_of_files words files is = cc
-
--- an image within its limit that isn't refused leaves the verdict to the schedule
-verdict_of_accepted : (image schedule : List ℕ) → length image ≤ image_limit → refusal_of image ≡ None → verdict image schedule ≡ schedule_verdict schedule
-verdict_of_accepted image schedule within accepted = rw low (ap (λ r. unless_refused r (schedule_verdict schedule)) accepted)
-  where
-    low : nat_lt image_limit (length image) ≡ false
-    low = grind (arith, nat_tests)
-
--- an answer of a run that got its chip is no refusal of the image
-no_refusal : (answer : Status) → IsDriveEnd answer → IsUnmade answer → ⊥
-no_refusal (status.TooLarge Image limit) e u = e
-no_refusal (status.TooLarge Schedule limit) e u = u
-no_refusal (status.TooLarge other limit) e u = u
-no_refusal (status.Image fault) e u = e
-no_refusal other e u = u
-
-no_usage : (answer : Status) → IsDriveEnd answer → answer ≢ status.Usage
-no_usage answer e is = subst IsDriveEnd is e
-
--- the whole run, where its image was loaded
-pub command_of_drive : (files : Files) (a b c : HostState) (answer : Status) (loaded : List ℕ) → IsReading a b Image → (IsTrue a.tells → bytes_of a files.image ≡ loaded) → length loaded ≤ image_limit
-    → refusal_of loaded ≡ None → IsDriveEnd answer → Outcome (setup_of loaded) files b c (bytes_of b files.schedule) answer → IsLater b c → CommandOutcome files a c answer
-command_of_drive files a b c answer loaded p is within accepted end h q = record {
+-- reading before a run changes nothing but what is known of its aim
+ends_after : (files : Files) (a b c : HostState) (first second : Aim) (answer : Status) → OnlyReads a b → IsLater b c → (IsTrue a.tells → first ≡ second) → Ends files b c first answer → Ends files a c second answer
+ends_after files a b c first second answer p q same h = record {
   answered = answered_at h.answered;
   caused = caused_after files a b c answer p.later h.caused;
-  leaves = λ tells. leaves_at tells;
-  unreported = unreported_at;
-  fronts = record {
-    order = front_at Order files.order (λ t. t.order) (λ e. cc) h.fronts.order;
-    output = front_at Output files.output (λ t. t.output) (λ e. cc) h.fronts.output;
-    report = front_at Report files.report (λ t. t.report) (λ e. cc) h.fronts.report;
+  done = λ d. record {
+    order = λ tells. (h.done d).order (at_b tells) ∙ ap (λ t. Some t.texts.order) (same tells);
+    report = λ tells. (h.done d).report (at_b tells) ∙ ap (λ t. Some t.texts.report) (same tells);
+    output = λ tells. subst (λ t. IfSome files.output (λ name. c.file name ≡ Some t.texts.output)) (same tells) ((h.done d).output (at_b tells));
   };
-  unmade = λ u. absurd (no_refusal answer end u);
-  run = no_usage answer end;
+  stopped = λ st. record {
+    order = λ tells. (h.stopped st).order (at_b tells) ∙ ap (λ t. Some t.texts.order) (same tells);
+    output = λ tells. subst (λ t. IfSome files.output (λ name. c.file name ≡ Some t.texts.output)) (same tells) ((h.stopped st).output (at_b tells));
+    report = record { same = λ none. (h.stopped st).report.same (ap (λ r. r.created) report ∙ none) ∙ report };
+  };
+  fronts = record {
+    order = front_after a b c role.Order files.order _ _ p (λ e. cc) (λ e. cc) q (λ tells. ap (λ t. t.texts.order) (same tells)) h.fronts.order;
+    report = front_after a b c role.Report files.report _ _ p (λ e. cc) (λ e. cc) q (λ tells. ap (λ t. t.texts.report) (same tells)) h.fronts.report;
+    output = output_front_after a b c files.output _ _ p q (λ tells. ap (λ t. t.texts.output) (same tells)) h.fronts.output;
+  };
 }
   where
-    same_schedule : bytes_of b files.schedule ≡ bytes_of a files.schedule
-    same_schedule = ap (λ f. unwrap_or f []) (p.files files.schedule)
-
-    texts : IsTrue a.tells → texts_of (setup_of loaded) (bytes_of b files.schedule) ≡ command_texts files a
-    texts tells = ap (λ i. texts_of (setup_of i) (bytes_of b files.schedule)) (sym (is tells)) ∙ ap (texts_of (setup_of (bytes_of a files.image))) same_schedule
-
     at_b : IsTrue a.tells → IsTrue b.tells
     at_b tells = subst IsTrue (sym p.later.tells) tells
 
-    answered_at : IsAnswerOf files b c (schedule_verdict (bytes_of b files.schedule)) answer → IsAnswerOf files a c (verdict_of files a) answer
+    report : b.role role.Report ≡ a.role role.Report
+    report = p.roles role.Report (λ e. cc) (λ e. cc)
+
+    answered_at : IsAnswer files b c first.verdict answer → IsAnswer files a c second.verdict answer
     answered_at (inl fault) = inl (fault_after files a b c answer p.later fault)
-    answered_at (inr found) = inr (λ tells.
-        found (at_b tells) ∙ sym (verdict_of_accepted loaded (bytes_of b files.schedule) within accepted)
-        ∙ ap (λ i. verdict i (bytes_of b files.schedule)) (sym (is tells)) ∙ ap (verdict (bytes_of a files.image)) same_schedule)
+    answered_at (inr is) = inr (λ tells. is (at_b tells) ∙ ap (λ t. t.verdict) (same tells))
 
-    unreported_at : IsRunEnd answer → answer ≢ status.Done → KeepsRole a c Report
-    unreported_at e d = record {
-      same = λ none. (h.leaves.unreported e d).same (ap (λ r. r.created) (p.roles Report (λ e. cc)) ∙ none) ∙ p.roles Report (λ e. cc);
-    }
+-- the aim of a schedule on the chip that configuration and image say is that of all three
+aim_same : (files : Files) (a b : HostState) (p : PreparedView) (h : IsReadyFor files a p) → OnlyReads a b → IsTrue a.tells
+    → aim_of_schedule (setup_of (settings p.config) h.image.bytes) (bytes_of b files.schedule) ≡ aim_of files a
+aim_same files a b p h r tells =
+    let numbers : List ℕ = settings p.config in
+    let image : List ℕ = h.image.bytes in
+    let schedule : List ℕ = bytes_of b files.schedule in
+    let said : numbers ≡ numbers_of (configured (bytes_of a files.config)) = sym (ap numbers_of (ap configured (h.config.held.bytes_are tells) ∙ h.config.said)) in
+    let shown : image ≡ bytes_of a files.image = sym (h.image.held.bytes_are tells) in
+    let told : schedule ≡ bytes_of a files.schedule = ap (λ f. unwrap_or f []) (r.files files.schedule) in
+    let verdict : status_of_schedule (setup_of numbers image) schedule ≡ status_of_bytes (bytes_of a files.config) (bytes_of a files.image) (bytes_of a files.schedule) =
+    sym (verdict_of_schedule numbers image schedule h.image.held.within h.image.accepted)
+    ∙ ap (λ i. status_of_image numbers i schedule) shown
+    ∙ sym (verdict_of_image a files.config numbers (bytes_of a files.image) schedule h.config tells)
+    ∙ ap (status_of_bytes (bytes_of a files.config) (bytes_of a files.image)) told in
+    ap (λ v. record { verdict = v; texts = texts_of_events (setup_of numbers image) (events_that_run (setup_of numbers image) schedule) }) verdict
+    ∙ ap (λ n. record { verdict = (aim_of files a).verdict; texts = texts_of_events (setup_of n image) (events_that_run (setup_of n image) schedule) }) said
+    ∙ ap (λ i. record { verdict = (aim_of files a).verdict; texts = texts_of_events (setup_of (numbers_of (configured (bytes_of a files.config))) i) (events_that_run (setup_of (numbers_of (configured (bytes_of a files.config))) i) schedule) }) shown
+    ∙ ap (λ b. record { verdict = (aim_of files a).verdict; texts = texts_of_events (setup_of (numbers_of (configured (bytes_of a files.config))) (bytes_of a files.image)) (events_that_run (setup_of (numbers_of (configured (bytes_of a files.config))) (bytes_of a files.image)) b) }) told
 
-    leaves_at : IsTrue a.tells → Leaves files a c (command_texts files a) answer
-    leaves_at tells =
-        let l : Leaves files b c (command_texts files a) answer = subst (λ t. Leaves files b c t answer) (texts tells) h.leaves in
-        record {
-          ended = l.ended;
-          done = l.done;
-          unreported = unreported_at;
-        }
+-- a run that was made ready and driven
+pub ends_of_command : (files : Files) (a b c : HostState) (p : PreparedView) (answer : Status) → IsReadyFor files a p → OnlyReads a b → IsLater b c
+    → ((s : Setup) → Stands s p.chip [] → Ends p.files b c (aim_of_schedule s (bytes_of b p.files.schedule)) answer) → Ends files a c (aim_of files a) answer
+ends_of_command files a b c p answer h r q ends =
+    let s : Setup = setup_of (settings p.config) h.image.bytes in
+    ends_after files a b c (aim_of_schedule s (bytes_of b files.schedule)) (aim_of files a) answer r q (aim_same files a b p h r)
+    (subst (λ f. Ends f b c (aim_of_schedule s (bytes_of b f.schedule)) answer) h.named (ends s h.image.stands))
 
-    front_at : (role : Role) (name : List ℕ) (text : Texts → List ℕ) → role ≢ Image → HasFront b c role name (text (texts_of (setup_of loaded) (bytes_of b files.schedule)))
-        → HasFront a c role name (text (command_texts files a))
-    front_at role name text other h = record {
-      front = λ none is tells. subst (λ t. HoldsFront (c.file name) (text t)) (texts tells) (h.front (ap (λ r. r.created) (p.roles role other) ∙ none) is (at_b tells));
-    }
+-- ---- over the words, which name files or don't
 
--- what a command's outcome says, clause by clause
-pub done_of_outcome : (files : Files) (a c : HostState) (answer : Status) → IsLater a c → CommandOutcome files a c answer → answer ≡ status.Done → IsDone files a c
-done_of_outcome files a c answer p h is = record {
-  order = λ tells. ((h.leaves tells).ended end).order (at_c tells);
-  report = λ tells. (h.leaves tells).done is (at_c tells);
-  output = λ tells. ((h.leaves tells).ended end).output (at_c tells);
+pub ends_for : (o : Option Files) (a b c : HostState) (p : PreparedView) (answer : Status) → IfSome o (λ files. IsReadyFor files a p) → OnlyReads a b → IsLater b c
+    → ((s : Setup) → Stands s p.chip [] → Ends p.files b c (aim_of_schedule s (bytes_of b p.files.schedule)) answer) → IfSome o (λ files. Ends files a c (aim_of files a) answer)
+ends_for None a b c p answer h r q ends = tt
+ends_for (Some files) a b c p answer h r q ends = ends_of_command files a b c p answer h r q ends
+
+pub done_for : (o : Option Files) (a c : HostState) (answer : Status) → IfSome o (λ files. Ends files a c (aim_of files a) answer) → answer ≡ status.Done → IfSome o (λ files. IsDone files a c (aim_of files a).texts)
+done_for None a c answer h d = tt
+done_for (Some files) a c answer h d = h.done d
+
+pub answer_for : (o : Option Files) (a c : HostState) (answer : Status) → IfSome o (λ files. Ends files a c (aim_of files a) answer) → IfSome o (λ files. IsCommandAnswer files a c answer)
+answer_for None a c answer h = tt
+answer_for (Some files) a c answer h = inr h.answered
+
+pub cause_for : (o : Option Files) (a c : HostState) (answer : Status) → IfSome o (λ files. Ends files a c (aim_of files a) answer) → IfSome o (λ files. IsCaused files a c answer)
+cause_for None a c answer h = tt
+cause_for (Some files) a c answer h = h.caused
+
+pub complete_for : (o : Option Files) (a c : HostState) (answer : Status) → IfSome o (λ files. Ends files a c (aim_of files a) answer) → IfSome o (λ files. IsCommandComplete files a c answer)
+complete_for None a c answer h = tt
+complete_for (Some files) a c answer h = inr (complete_of_answer files a c (aim_of files a).verdict answer h.answered)
+
+pub stopped_for : (o : Option Files) (a c : HostState) (answer : Status) → IfSome o (λ files. Ends files a c (aim_of files a) answer) → IsStop answer → IfSome o (λ files. HasStopped files a c (aim_of files a).texts)
+stopped_for None a c answer h st = tt
+stopped_for (Some files) a c answer h st = h.stopped st
+
+pub fronts_for : (o : Option Files) (a c : HostState) (answer : Status) → IfSome o (λ files. Ends files a c (aim_of files a) answer) → IfSome o (λ files. HasFronts files a c (aim_of files a).texts)
+fronts_for None a c answer h = tt
+fronts_for (Some files) a c answer h = h.fronts
+
+pub others_for : (o : Option Files) (a b c : HostState) (p : PreparedView) → IfSome o (λ files. IsReadyFor files a p) → OnlyReads a b → KeepsOthers p.files b c → IfSome o (λ files. KeepsOthers files a c)
+others_for None a b c p h r k = tt
+others_for (Some files) a b c p h r k = record {
+  same = λ tells n order report output. (subst (λ f. KeepsOthers f b c) h.named k).same (subst IsTrue (sym r.later.tells) tells) n order report output ∙ r.files n;
 }
+
+pub unready_complete : (o : Option Files) (a c : HostState) (answer : Status) → IfSome o (λ files. IsUnready files a c answer) → IfSome o (λ files. IsCommandComplete files a c answer)
+unready_complete None a c answer h = tt
+unready_complete (Some files) a c answer h = go h.answered
   where
-    end : IsRunEnd answer
-    end = subst IsRunEnd (sym is) tt
-
-    at_c : IsTrue a.tells → IsTrue c.tells
-    at_c tells = subst IsTrue (sym p.tells) tells
-
-stop_ends : (answer : Status) → IsStop answer → IsRunEnd answer × (answer ≢ status.Done)
-stop_ends (status.Schedule line why) h = (tt, λ e. cc)
-stop_ends (status.TooLarge Schedule limit) h = (tt, λ e. cc)
-stop_ends (status.TooLarge other limit) h = absurd h
-stop_ends other h = absurd h
-
-pub stopped_of_outcome : (files : Files) (a c : HostState) (answer : Status) → IsLater a c → CommandOutcome files a c answer → IsStop answer → HasStopped files a c
-stopped_of_outcome files a c answer p h stop =
-    let ends = stop_ends answer stop in
-    record {
-      order = λ tells. ((h.leaves tells).ended ends.0).order (subst IsTrue (sym p.tells) tells);
-      output = λ tells. ((h.leaves tells).ended ends.0).output (subst IsTrue (sym p.tells) tells);
-      report = h.unreported ends.0 ends.1;
-    }
-
-no_rise : (files : Files) (a c : HostState) (answer : Status) → IsFault files a c answer → ((role : Role) (name : List ℕ) → Rose a c role name → ⊥) → answer ≡ status.OutOfMemory
-no_rise files a c (status.ReadFault Image) h none = absurd (none _ _ h)
-no_rise files a c (status.ReadFault Schedule) h none = absurd (none _ _ h)
-no_rise files a c (status.WriteFault Order) h none = absurd (none _ _ h)
-no_rise files a c (status.WriteFault Report) h none = absurd (none _ _ h)
-no_rise files a c (status.WriteFault Output) h none = absurd (none _ _ h)
-no_rise files a c status.OutOfMemory h none = refl
-no_rise files a c other h none = absurd h
-
-pub complete_of_answer : (files : Files) (a c : HostState) (answer : Status) → IsAnswerOf files a c (verdict_of files a) answer → IsComplete files a c answer
-complete_of_answer files a c answer (inl fault) = λ tells none. inr (no_rise files a c answer fault none)
-complete_of_answer files a c answer (inr is) = λ tells none. inl (is tells)
+    go : (answer ≡ status.OutOfMemory) ⊎ ((schedule : List ℕ) → IsAnswer files a c (status_of_bytes (bytes_of a files.config) (bytes_of a files.image) schedule) answer) → IsCommandComplete files a c answer
+    go (inl none) = inl none
+    go (inr is) = inr (complete_of_answer files a c (aim_of files a).verdict answer (is (bytes_of a files.schedule)))

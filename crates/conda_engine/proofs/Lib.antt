@@ -1,6 +1,3 @@
-pub mod CommandFacts
+pub mod PrepareFacts
 pub mod DriveFacts
-pub mod LoadFacts
-pub mod PhaseFacts
-pub mod ProgressFacts
-pub mod RunningFacts
+pub mod CommandFacts

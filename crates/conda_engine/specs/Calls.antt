@@ -1,4 +1,4 @@
--- What the failures of calls of the host are.
+-- What the failures of reading are.
 use Rattle.std.specs.Prelude.{◌≡◌, ℕ}
 use Rattle.conda_host.specs.declared.outside.Role.{Role}
 use Rattle.conda_host.specs.State.{HostState, RoseForAll}
@@ -12,9 +12,3 @@ IsReadError old new role limit (status.ReadFault r) = (r ≡ role) × RoseForAll
 IsReadError old new role limit (status.TooLarge r n) = (r ≡ role) × (n ≡ limit) × PassesLimit old role limit
 IsReadError old new role limit status.OutOfMemory = Unit {0}
 IsReadError old new role limit other = ⊥
-
--- the same without a limit
-abbrev pub IsPrefixError : HostState → HostState → Role → Status → Type 0
-IsPrefixError old new role (status.ReadFault r) = (r ≡ role) × RoseForAll old new role
-IsPrefixError old new role status.OutOfMemory = Unit {0}
-IsPrefixError old new role other = ⊥

@@ -1,67 +1,38 @@
 -- What a command answers and leaves.
-use Rattle.std.specs.Prelude.{◌≡◌, ◌≢◌, ◌⊎◌, ℕ, List, IsTrue, Some}
-use Rattle.conda_host.specs.declared.outside.Role.{Role}
-use Rattle.conda_host.specs.declared.outside.Role.TheVariants.{Image, Schedule, Order, Report, Output}
-use Rattle.conda_host.specs.State.{HostState, Rose}
+use Rattle.std.specs.Prelude.{◌≡◌, ◌⊎◌, ℕ, List}
+use Rattle.conda_host.specs.declared.outside.Role.TheVariants as role
+use Rattle.conda_host.specs.State.{HostState}
 use Rattle.conda_engine.specs.declared.status.Status.{Status}
 use Rattle.conda_engine.specs.declared.status.Status.TheVariants as status
-use Rattle.conda_engine.specs.Outcome.{IsAnswerOf, IsRunEnd, Leaves, texts_of}
-use Rattle.conda_engine.specs.Phases.{IsCaused, HasFronts, KeepsRole, Texts, bytes_of}
-use Rattle.conda_engine.specs.Verdict.{setup_of, verdict}
-use Rattle.conda_engine.specs.Words.{Files}
+use Rattle.conda_engine.specs.Faults.{IsAnswer, bytes_of}
+use Rattle.conda_engine.specs.Outcome.{IsComplete}
+use Rattle.conda_engine.specs.Verdict.{Aim, aim_of_bytes}
+use Rattle.command_words.specs.Words.{Files}
 
--- the status that the bytes of image and schedule lead to
-abbrev pub verdict_of : Files → HostState → Status
-verdict_of files s = verdict (bytes_of s files.image) (bytes_of s files.schedule)
+-- what the files of configuration, image and schedule lead to
+abbrev pub aim_of : Files → HostState → Aim
+aim_of files s = aim_of_bytes (bytes_of s files.config) (bytes_of s files.image) (bytes_of s files.schedule)
 
--- the texts that they lead to
-abbrev pub command_texts : Files → HostState → Texts
-command_texts files s = texts_of (setup_of (bytes_of s files.image)) (bytes_of s files.schedule)
+-- the answer is what they lead to, or the host failed, or memory ran out
+abbrev pub IsCommandAnswer : Files → HostState → HostState → Status → Type 0
+IsCommandAnswer files old new answer = (answer ≡ status.OutOfMemory) ⊎ IsAnswer files old new (aim_of files old).verdict answer
 
--- an answer to which no file was created: the image was refused
+-- where no count of the host rose, it is what they lead to, unless memory ran out
+abbrev pub IsCommandComplete : Files → HostState → HostState → Status → Type 0
+IsCommandComplete files old new answer = (answer ≡ status.OutOfMemory) ⊎ IsComplete old new (aim_of files old).verdict answer
+
+-- an answer to which no file was created: memory ran out, or configuration or image were refused
 abbrev pub IsUnmade : Status → Type 0
+IsUnmade (status.Config fault) = Unit {0}
 IsUnmade (status.Image fault) = Unit {0}
-IsUnmade (status.TooLarge Image limit) = Unit {0}
-IsUnmade (status.TooLarge other limit) = ⊥
+IsUnmade (status.TooLarge role.Config limit) = Unit {0}
+IsUnmade (status.TooLarge role.Image limit) = Unit {0}
+IsUnmade status.OutOfMemory = Unit {0}
 IsUnmade other = ⊥
 
 -- no file changed, and no role was created
 pub record MadeNothing (old new : HostState) : Type 0 where
   pub files : (n : List ℕ) → new.file n ≡ old.file n
-  pub order : new.role Order ≡ old.role Order
-  pub report : new.role Report ≡ old.role Report
-  pub output : new.role Output ≡ old.role Output
-
--- a run of these files
-pub record CommandOutcome (files : Files) (old new : HostState) (answer : Status) : Type 0 where
-  pub answered : IsAnswerOf files old new (verdict_of files old) answer
-  pub caused : IsCaused files old new answer
-  pub leaves : IsTrue old.tells → Leaves files old new (command_texts files old) answer
-  pub unreported : IsRunEnd answer → answer ≢ status.Done → KeepsRole old new Report
-  pub fronts : HasFronts files old new (command_texts files old)
-  pub unmade : IsUnmade answer → MadeNothing old new
-  pub run : answer ≢ status.Usage
-
--- at Done the files hold their texts
-pub record IsDone (files : Files) (old new : HostState) : Type 0 where
-  pub order : IsTrue old.tells → new.file files.order ≡ Some (command_texts files old).order
-  pub report : IsTrue old.tells → new.file files.report ≡ Some (command_texts files old).report
-  pub output : IsTrue old.tells → new.file files.output ≡ Some (command_texts files old).output
-
--- a run that stopped: at a bad line, or at the schedule's limit
-abbrev pub IsStop : Status → Type 0
-IsStop (status.Schedule line why) = Unit {0}
-IsStop (status.TooLarge Schedule limit) = Unit {0}
-IsStop (status.TooLarge other limit) = ⊥
-IsStop other = ⊥
-
--- then order and output hold their texts, and no report was created
-pub record HasStopped (files : Files) (old new : HostState) : Type 0 where
-  pub order : IsTrue old.tells → new.file files.order ≡ Some (command_texts files old).order
-  pub output : IsTrue old.tells → new.file files.output ≡ Some (command_texts files old).output
-  pub report : KeepsRole old new Report
-
--- where no count of the host rose, the answer is the verdict, unless memory ran out
-abbrev pub IsComplete : Files → HostState → HostState → Status → Type 0
-IsComplete files old new answer =
-    IsTrue old.tells → ((role : Role) (name : List ℕ) → Rose old new role name → ⊥) → (answer ≡ verdict_of files old) ⊎ (answer ≡ status.OutOfMemory)
+  pub order : new.role role.Order ≡ old.role role.Order
+  pub report : new.role role.Report ≡ old.role role.Report
+  pub output : new.role role.Output ≡ old.role role.Output

@@ -1,10 +1,8 @@
-pub mod Calls
-pub mod Command
-pub mod Loading
-pub mod Outcome
-pub mod Phases
-pub mod Progress
-pub mod Running
 pub mod StatusText
 pub mod Verdict
-pub mod Words
+pub mod Calls
+pub mod Faults
+pub mod Outcome
+pub mod Preparing
+pub mod Driving
+pub mod Command

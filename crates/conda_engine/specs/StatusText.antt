@@ -3,6 +3,8 @@ use Rattle.std.specs.Prelude.{◌≢◌, ℕ, List, [], ◌++◌, codes, Option,
 use Rattle.std.specs.Fmt.{decimal}
 use Rattle.conda_host.specs.declared.outside.Role.{Role}
 use Rattle.conda_host.specs.declared.outside.Role.TheVariants as role
+use Rattle.chip_config.specs.declared.fault.ConfigFault.{ConfigFault}
+use Rattle.chip_config.specs.declared.fault.ConfigFault.TheVariants as config_fault
 use Rattle.elf_loader.specs.declared.fault.ImageFault.{ImageFault}
 use Rattle.elf_loader.specs.declared.fault.ImageFault.TheVariants as fault
 use Rattle.conda_engine.specs.declared.status.Status.{Status}
@@ -13,6 +15,7 @@ code_of status.Done = 0
 code_of status.Usage = 2
 code_of (status.ReadFault r) = 3
 code_of (status.WriteFault r) = 4
+code_of (status.Config f) = 5
 code_of (status.Image f) = 6
 code_of (status.Schedule line why) = 7
 code_of (status.TooLarge r limit) = 8
@@ -27,6 +30,16 @@ name_of_role role.Report = codes "report"
 name_of_role role.Output = codes "output"
 name_of_role role.Source = codes "source"
 name_of_role role.Program = codes "program"
+
+-- the number of a configuration's fault, in the order in which faults are looked for
+abbrev pub config_fault_number : ConfigFault → ℕ
+config_fault_number config_fault.NotJson = 1
+config_fault_number config_fault.NotObject = 2
+config_fault_number config_fault.UnknownKey = 3
+config_fault_number (config_fault.NotNumber key) = 4
+config_fault_number (config_fault.OutOfRange key number) = 5
+config_fault_number (config_fault.BadMemory base bytes) = 6
+config_fault_number config_fault.OutOfMemory = 0
 
 -- the number of an image's fault, in the order in which faults are looked for
 abbrev pub image_fault_number : ImageFault → ℕ
@@ -53,6 +66,12 @@ image_fault_number fault.OutOfMemory = 0
 abbrev pub held : ℕ → List ℕ
 held n = codes " " ++ decimal n
 
+abbrev pub config_fault_held : ConfigFault → List ℕ
+config_fault_held (config_fault.NotNumber key) = held key
+config_fault_held (config_fault.OutOfRange key number) = held key ++ held number
+config_fault_held (config_fault.BadMemory base bytes) = held base ++ held bytes
+config_fault_held other = []
+
 abbrev pub image_fault_held : ImageFault → List ℕ
 image_fault_held (fault.BadFlags flags) = held flags
 image_fault_held (fault.TooManySegments many) = held many
@@ -69,6 +88,7 @@ option_held (Some n) = held n
 
 -- the status holds no want of memory, which has a status of its own
 abbrev pub IsTold : Status → Type 0
+IsTold (status.Config f) = f ≢ config_fault.OutOfMemory
 IsTold (status.Image f) = f ≢ fault.OutOfMemory
 IsTold other = Unit {0}
 
@@ -78,6 +98,7 @@ text_of_status status.Done = []
 text_of_status status.Usage = codes "conda: usage"
 text_of_status (status.ReadFault r) = codes "conda: cannot read " ++ name_of_role r
 text_of_status (status.WriteFault r) = codes "conda: cannot write " ++ name_of_role r
+text_of_status (status.Config f) = codes "conda: config fault " ++ decimal (config_fault_number f) ++ config_fault_held f
 text_of_status (status.Image f) = codes "conda: image fault " ++ decimal (image_fault_number f) ++ image_fault_held f
 text_of_status (status.Schedule line why) = codes "conda: schedule line " ++ decimal line ++ codes " fault " ++ decimal why
 text_of_status (status.TooLarge r limit) = codes "conda: " ++ name_of_role r ++ codes " passes " ++ decimal limit

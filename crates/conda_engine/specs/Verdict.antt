@@ -1,71 +1,121 @@
--- What the bytes of image and schedule lead to.
-use Rattle.std.specs.Prelude.{ℕ, Bool, List, length, take, Option, Some, None, if◌then◌else◌, nat_lt}
-use Rattle.conda_host.specs.declared.outside.Role.TheVariants.{Image, Schedule}
+-- What the bytes of configuration, image and schedule lead to.
+use Rattle.std.specs.Prelude.{ℕ, List, [], length, slice_index, Option, Some, None, Result, Ok, Err, if◌then◌else◌, nat_lt}
+use Rattle.conda_host.specs.declared.outside.Role.TheVariants.{Config, Image, Schedule}
 use Rattle.conda_base.specs.declared.actor.Actor.{Actor}
+use Rattle.chip_config.specs.declared.fault.ConfigFault.{ConfigFault}
+use Rattle.chip_config.specs.Settings.{configured}
 use Rattle.elf_loader.specs.declared.fault.ImageFault.{ImageFault}
 use Rattle.elf_loader.specs.Refusal.{refusal}
 use Rattle.elf_loader.specs.Image.{image_of}
-use Rattle.schedule_log.specs.Schedule.{judged_lines, good_events, first_bad}
+use Rattle.schedule_log.specs.Verdict.{Verdict, Fine, BadLine, TooLarge, schedule_verdict, good}
 use Rattle.schedule_log.specs.Texts.{order_text}
 use Rattle.offload_calls.specs.State.{Setup}
+use Rattle.chip_core.specs.Reports.{report_of_events}
 use Rattle.chip_core.specs.Runs.{flat, journal}
 use Rattle.conda_engine.specs.declared.status.Status.{Status}
 use Rattle.conda_engine.specs.declared.status.Status.TheVariants as status
 
--- the most bytes of an image and of a schedule
+-- the most bytes of a configuration and of an image
+abbrev pub config_limit : ℕ
+config_limit = 65536
+
 abbrev pub image_limit : ℕ
 image_limit = 33554432
 
-abbrev pub schedule_limit : ℕ
-schedule_limit = 1073741824
+-- ---- a configuration's numbers, by the order of its keys
 
--- the bytes of memory, which begins at address 0
-abbrev pub memory_bytes : ℕ
-memory_bytes = 16777216
+abbrev pub harts_of : List ℕ → ℕ
+harts_of numbers = slice_index numbers 0
 
--- why an image isn't loaded, if it isn't
-abbrev pub refusal_of : List ℕ → Option ImageFault
-refusal_of image = refusal image 0 memory_bytes
+abbrev pub cores_of : List ℕ → ℕ
+cores_of numbers = slice_index numbers 1
 
--- the chip that an image is run on: one hart and one core, with lines of 64 bytes
-abbrev pub setup_of : List ℕ → Setup
-setup_of image =
-    let loaded = image_of image 0 memory_bytes in
-    record { code = loaded.code; entry = loaded.entry; harts = 1; cores = 1; line_bytes = 64 }
+abbrev pub base_of : List ℕ → ℕ
+base_of numbers = slice_index numbers 2
 
--- the lines of the bytes of a schedule that are within the limit
-abbrev pub is_longer : List ℕ → Bool
-is_longer schedule = nat_lt schedule_limit (length schedule)
+abbrev pub memory_of : List ℕ → ℕ
+memory_of numbers = slice_index numbers 3
 
-abbrev pub lines_within : List ℕ → List (List ℕ)
-lines_within schedule = judged_lines (is_longer schedule) (take schedule_limit schedule)
+abbrev pub line_of : List ℕ → ℕ
+line_of numbers = slice_index numbers 15
 
--- the events that a schedule asks for before its first bad line
-abbrev pub run_events : List ℕ → List Actor
-run_events schedule = good_events (lines_within schedule)
+-- ---- the chip
 
--- the status after lines of which this one is bad, or none, of a schedule that has further bytes or not
-abbrev pub status_after : Option ℕ → Bool → Status
-status_after (Some line) longer = status.Schedule line 1
-status_after None longer = if longer then status.TooLarge Schedule schedule_limit else status.Done
+-- why an image isn't loaded on a chip of these numbers, if it isn't
+abbrev pub refusal_of : List ℕ → List ℕ → Option ImageFault
+refusal_of numbers image = refusal image (base_of numbers) (memory_of numbers)
 
-abbrev pub schedule_verdict : List ℕ → Status
-schedule_verdict schedule = status_after (first_bad (lines_within schedule)) (is_longer schedule)
+-- the chip of these numbers, with an image loaded
+abbrev pub setup_of : List ℕ → List ℕ → Setup
+setup_of numbers image =
+    let loaded = image_of image (base_of numbers) (memory_of numbers) in
+    record { code = loaded.code; entry = loaded.entry; harts = harts_of numbers; cores = cores_of numbers; line_bytes = line_of numbers }
+
+-- the numbers that bytes say, none where they are refused
+abbrev pub numbers_of : Result (List ℕ) ConfigFault → List ℕ
+numbers_of (Ok numbers) = numbers
+numbers_of (Err fault) = []
+
+-- ---- the status
+
+abbrev pub status_of : Verdict → Status
+status_of Fine = status.Done
+status_of (BadLine line why) = status.Schedule line why
+status_of (TooLarge limit) = status.TooLarge Schedule limit
+
+-- the status of a schedule on a chip, where nothing fails
+abbrev pub status_of_schedule : Setup → List ℕ → Status
+status_of_schedule s schedule = status_of (schedule_verdict s.harts s.cores schedule)
 
 -- a refused image decides, and else what comes later
-abbrev pub unless_refused : Option ImageFault → Status → Status
-unless_refused None later = later
-unless_refused (Some fault) later = status.Image fault
+abbrev pub after_image : Option ImageFault → Status → Status
+after_image (Some fault) later = status.Image fault
+after_image None later = later
 
--- the status of a command over these bytes, where nothing fails
-abbrev pub verdict : List ℕ → List ℕ → Status
-verdict image schedule =
+abbrev pub status_of_image : List ℕ → List ℕ → List ℕ → Status
+status_of_image numbers image schedule =
     if nat_lt image_limit (length image) then status.TooLarge Image image_limit
-    else unless_refused (refusal_of image) (schedule_verdict schedule)
+    else after_image (refusal_of numbers image) (status_of_schedule (setup_of numbers image) schedule)
 
--- the texts of order and output
-abbrev pub order_of : Setup → List ℕ → List ℕ
-order_of s schedule = order_text (journal s (run_events schedule))
+-- a refused configuration decides, and else the image and the schedule
+abbrev pub after_config : Result (List ℕ) ConfigFault → List ℕ → List ℕ → Status
+after_config (Err fault) image schedule = status.Config fault
+after_config (Ok numbers) image schedule = status_of_image numbers image schedule
 
-abbrev pub output_of : Setup → List ℕ → List ℕ
-output_of s schedule = (flat s (run_events schedule)).output
+-- the status of a run of these bytes, where nothing fails
+abbrev pub status_of_bytes : List ℕ → List ℕ → List ℕ → Status
+status_of_bytes config image schedule =
+    if nat_lt config_limit (length config) then status.TooLarge Config config_limit
+    else after_config (configured config) image schedule
+
+-- ---- the texts
+
+-- the texts of the files that a run creates
+pub record Texts : Type 0 where
+  pub order : List ℕ
+  pub output : List ℕ
+  pub report : List ℕ
+
+-- the texts of the events of a schedule that run
+abbrev pub texts_of_events : Setup → List Actor → Texts
+texts_of_events s events = record { order = order_text (journal s events); output = (flat s events).output; report = report_of_events s events }
+
+abbrev pub events_that_run : Setup → List ℕ → List Actor
+events_that_run s schedule = good s.harts s.cores schedule
+
+-- ---- both
+
+-- what a run leads to: its status where nothing fails, and the texts of its files
+pub record Aim : Type 0 where
+  pub verdict : Status
+  pub texts : Texts
+
+-- what a schedule leads to on a chip
+abbrev pub aim_of_schedule : Setup → List ℕ → Aim
+aim_of_schedule s schedule = record { verdict = status_of_schedule s schedule; texts = texts_of_events s (events_that_run s schedule) }
+
+-- what the bytes of configuration, image and schedule lead to
+abbrev pub aim_of_bytes : List ℕ → List ℕ → List ℕ → Aim
+aim_of_bytes config image schedule =
+    let s = setup_of (numbers_of (configured config)) image in
+    record { verdict = status_of_bytes config image schedule; texts = texts_of_events s (events_that_run s schedule) }

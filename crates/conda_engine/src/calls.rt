@@ -1,11 +1,11 @@
 // The host's calls, each with the status that its failure has.
 ghost use Rattle.std.specs.Prelude.{◌≡◌, false, IsTrue, OnOk, IfOk, IfErr, OnErr};
-ghost use Rattle.conda_host.specs.State.{IsReading, IsWriting, IsCreating, Opens, Creates, Rose, RoseForAll, IsOpened, IsCreated};
-ghost use Rattle.conda_host.specs.Whole.{ReadsWhole, ReadsPrefix, WritesWhole, WritesPart};
-ghost use Rattle.conda_engine.specs.Calls.{IsReadError, IsPrefixError};
+ghost use Rattle.conda_host.specs.State.{IsReading, IsCreating, Opens, Creates, Rose, IsOpened, IsCreated};
+ghost use Rattle.conda_host.specs.Whole.{ReadsWhole};
+ghost use Rattle.conda_engine.specs.Calls.{IsReadError};
 
 use crate::Status;
-use conda_host::{Host, Prefix, ReadError, Role, read_all, read_up_to, write_all};
+use conda_host::{Host, ReadError, Role, read_all};
 use std::alloc::Global;
 
 pub fn open<H: Host>(host: &mut H, role: Role, name: &str) -> Result<(), Status>
@@ -43,25 +43,6 @@ pub fn read<H: Host>(
     }
 }
 
-/// The first bytes of an opened role, up to the limit.
-pub fn read_front<H: Host>(
-    alloc: Global,
-    host: &mut H,
-    role: Role,
-    limit: usize,
-) -> Result<Prefix, Status>
-    requires { IsTrue (IsOpened (H.state host.old) role) }
-    ensures ok { IfOk result (λ front. ReadsPrefix (H.state host.old) role limit front.bytes.items front.more) }
-    ensures err { IfErr result (λ e. IsPrefixError (H.state host.old) (H.state host.new) role e) }
-    ensures rest { IsReading (H.state host.old) (H.state host.new) role }
-{
-    match read_up_to(alloc, host, role, limit) {
-        Ok(front) => Ok(front),
-        Err(ReadError::OutOfMemory) => Err(Status::OutOfMemory),
-        Err(_) => Err(Status::ReadFault(role)),
-    }
-}
-
 pub fn create<H: Host>(host: &mut H, role: Role, name: &str) -> Result<(), Status>
     ensures ok { OnOk result (Creates (H.state host.new) role name.now) }
     ensures err { IfErr result (λ e. e ≡ Status.WriteFault role) }
@@ -70,20 +51,6 @@ pub fn create<H: Host>(host: &mut H, role: Role, name: &str) -> Result<(), Statu
     ensures rest { IsCreating (H.state host.old) (H.state host.new) role name.now }
 {
     match host.create(role, name) {
-        Ok(()) => Ok(()),
-        Err(_) => Err(Status::WriteFault(role)),
-    }
-}
-
-pub fn write<H: Host>(host: &mut H, role: Role, text: &[u8]) -> Result<(), Status>
-    requires { IsTrue (IsCreated (H.state host.old) role) }
-    ensures ok { OnOk result (WritesWhole (H.state host.old) (H.state host.new) role text.now) }
-    ensures part { OnErr result (WritesPart (H.state host.old) (H.state host.new) role text.now) }
-    ensures err { IfErr result (λ e. e ≡ Status.WriteFault role) }
-    ensures cause { OnErr result (RoseForAll (H.state host.old) (H.state host.new) role) }
-    ensures rest { IsWriting (H.state host.old) (H.state host.new) role }
-{
-    match write_all(host, role, text) {
         Ok(()) => Ok(()),
         Err(_) => Err(Status::WriteFault(role)),
     }

@@ -3,16 +3,16 @@
 
 mod calls;
 mod command;
-mod drive;
+mod driving;
+mod files;
 mod loading;
-mod phases;
-mod run;
-mod running;
+mod prepared;
 mod status;
 mod text;
-mod words;
 
 pub use command::conda;
+pub use driving::drive;
+pub use prepared::{Prepared, prepare};
 pub use status::Status;
 pub use text::status_text;
 

@@ -1,73 +1,104 @@
-// The first steps of a run: the image is read, and the chip is made.
-ghost use Rattle.std.specs.Prelude.{◌≡◌, IfOk, IfErr};
+// The first steps of a run: configuration and image are read, and the chip is made.
+ghost use Rattle.std.specs.Prelude.{◌≡◌, [], None, Ok, IfOk, IfErr};
 ghost use Rattle.conda_host.specs.State.{IsReading};
 ghost use Rattle.conda_host.specs.declared.outside.Role.TheVariants as role;
-ghost use Rattle.conda_engine.specs.Loading.{Starts, IsImageError, HoldsImage, IsLoaded, IsLoadError};
+ghost use Rattle.chip_config.specs.Settings.{configured, settings};
+ghost use Rattle.chip_core.specs.Stands.{Stands};
+ghost use Rattle.conda_engine.specs.Preparing.{HoldsFile, IsFileError, IsConfigured, IsBytesError, IsConfigError, IsImageError, IsLoaded, IsLoadError};
 ghost use Rattle.conda_engine.specs.StatusText.{IsTold};
+ghost use Rattle.conda_engine.specs.Verdict.{refusal_of, setup_of};
 
 use crate::Status;
 use crate::calls::{open, read};
+use chip_config::{Config, ConfigFault};
 use chip_core::Chip;
 use conda_host::{Host, Role};
 use elf_loader::{ImageFault, load};
-use std::alloc::{AllocError, Global};
+use std::alloc::Global;
+
+/// The most bytes of a configuration.
+const CONFIG_LIMIT: usize = 65_536;
 
 /// The most bytes of an image.
 const IMAGE_LIMIT: usize = 33_554_432;
 
-/// Memory, which begins at address 0.
-const MEMORY_BYTES: u32 = 16_777_216;
+// Reads a file.
+fn read_file<H: Host>(
+    alloc: Global,
+    host: &mut H,
+    role: Role,
+    name: &str,
+    limit: usize,
+) -> Result<Vec<u8>, Status>
+    ensures ok { IfOk result (λ file. HoldsFile (H.state host.old) name.now limit file.items) }
+    ensures err { IfErr result (λ e. IsFileError (H.state host.old) (H.state host.new) role name.now limit e) }
+    ensures rest { IsReading (H.state host.old) (H.state host.new) role }
+{
+    open(host, role, name)?;
+    read(alloc, host, role, limit)
+}
 
-const LINE_BYTES: u32 = 64;
-
-impl From<AllocError> for Status {
-    ghost use Rattle.std.specs.Prelude.{◌≡◌};
-    ghost use Rattle.conda_engine.specs.declared.status.Status.TheVariants.{OutOfMemory};
-
-    ghost from_gives = { λ _ e. e ≡ OutOfMemory };
-
-    fn from(_: AllocError) -> Self {
-        Status::OutOfMemory
+// What bytes say as a configuration.
+fn config_of(alloc: Global, bytes: &[u8]) -> Result<Config, Status>
+    ensures ok { IfOk result (λ config. configured bytes.now ≡ Ok (settings config)) }
+    ensures err { IfErr result (IsBytesError bytes.now) }
+    ensures told { IfErr result IsTold }
+{
+    match chip_config::read(alloc, bytes) {
+        Ok(config) => Ok(config),
+        Err(ConfigFault::OutOfMemory) => Err(Status::OutOfMemory),
+        Err(fault) => Err(Status::Config(fault)),
     }
 }
 
+/// Reads the configuration.
+pub fn read_config<H: Host>(alloc: Global, name: &str, host: &mut H) -> Result<Config, Status>
+    ensures ok { IfOk result (λ config. IsConfigured (H.state host.old) name.now (settings config)) }
+    ensures err { IfErr result (IsConfigError (H.state host.old) (H.state host.new) name.now) }
+    ensures told { IfErr result IsTold }
+    ensures rest { IsReading (H.state host.old) (H.state host.new) role.Config }
+{
+    let bytes = read_file(alloc, host, Role::Config, name, CONFIG_LIMIT)?;
+    config_of(alloc, &bytes)
+}
+
 // A chip at the start of an image.
-fn chip_of(alloc: Global, file: &[u8]) -> Result<Chip, Status>
-    ensures ok { IfOk result (Starts file.now) }
-    ensures err { IfErr result (IsImageError file.now) }
+fn chip_of(alloc: Global, config: &Config, file: &[u8]) -> Result<Chip, Status>
+    ensures accepted { IfOk result (λ chip. refusal_of (settings config.now) file.now ≡ None) }
+    ensures stands { IfOk result (λ chip. Stands (setup_of (settings config.now) file.now) chip []) }
+    ensures err { IfErr result (IsImageError (settings config.now) file.now) }
     ensures told { IfErr result IsTold }
 {
-    let image = match load(alloc, file, 0, MEMORY_BYTES) {
+    let image = match load(alloc, file, config.mem_base, config.mem_bytes) {
         Ok(image) => image,
         Err(ImageFault::OutOfMemory) => return Err(Status::OutOfMemory),
         Err(fault) => return Err(Status::Image(fault)),
     };
+    let (harts, cores) = (config.harts as u8, config.cores as u8);
     let entry = image.entry();
-    let chip = Chip::new(alloc, 1, 1, LINE_BYTES, entry, image.into_code())?;
+    let chip = Chip::new(
+        alloc,
+        harts,
+        cores,
+        config.line_bytes,
+        entry,
+        image.into_code(),
+    )?;
     Ok(chip)
 }
 
-// Reads the image's file.
-fn read_image<H: Host>(alloc: Global, name: &str, host: &mut H) -> Result<Vec<u8>, Status>
-    ensures ok { IfOk result (λ file. HoldsImage (H.state host.old) name.now file.items) }
-    ensures err { IfErr result (λ e. IsLoadError (H.state host.old) (H.state host.new) name.now e) }
-    ensures told { IfErr result IsTold }
-    ensures rest { IsReading (H.state host.old) (H.state host.new) role.Image }
-{
-    open(host, Role::Image, name)?;
-    read(alloc, host, Role::Image, IMAGE_LIMIT)
-}
-
 /// Reads the image, and makes the chip that it is run on.
-pub fn load_chip<H: Host>(alloc: Global, name: &str, host: &mut H) -> Result<Chip, Status>
-    ensures ok { IfOk result (λ chip. IsLoaded (H.state host.old) name.now chip) }
-    ensures err { IfErr result (λ e. IsLoadError (H.state host.old) (H.state host.new) name.now e) }
+pub fn load_chip<H: Host>(
+    alloc: Global,
+    config: &Config,
+    name: &str,
+    host: &mut H,
+) -> Result<Chip, Status>
+    ensures ok { IfOk result (IsLoaded (settings config.now) (H.state host.old) name.now) }
+    ensures err { IfErr result (IsLoadError (settings config.now) (H.state host.old) (H.state host.new) name.now) }
     ensures told { IfErr result IsTold }
     ensures rest { IsReading (H.state host.old) (H.state host.new) role.Image }
 {
-    let file = read_image(alloc, name, host)?;
-    match chip_of(alloc, &file) {
-        Ok(chip) => Ok(chip),
-        Err(status) => Err(status),
-    }
+    let file = read_file(alloc, host, Role::Image, name, IMAGE_LIMIT)?;
+    chip_of(alloc, config, &file)
 }

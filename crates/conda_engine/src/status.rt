@@ -1,7 +1,10 @@
+// How commands end.
 ghost use Rattle.std.specs.Prelude.{◌≡◌};
 
+use chip_config::ConfigFault;
 use conda_host::Role;
 use elf_loader::ImageFault;
+use std::alloc::AllocError;
 
 /// How a command ended.
 #[derive(Clone, Copy, Debug, PartialEq, Eq)]
@@ -12,11 +15,13 @@ pub enum Status {
     Usage,
     ReadFault(Role),
     WriteFault(Role),
+    /// The configuration is refused; the fault isn't want of memory.
+    Config(ConfigFault),
     /// The image is refused; the fault isn't want of memory.
     Image(ImageFault),
     /// The first bad line of the schedule, counted from 1.
     Schedule { line: u64, why: u8 },
-    /// A source has more bytes than its limit.
+    /// A source has more bytes than its limit, or the schedule more events than its limit.
     TooLarge { role: Role, limit: u64 },
     OutOfMemory,
 }
@@ -33,10 +38,22 @@ impl Status {
             Status::Usage => 2,
             Status::ReadFault(_) => 3,
             Status::WriteFault(_) => 4,
+            Status::Config(_) => 5,
             Status::Image(_) => 6,
             Status::Schedule { .. } => 7,
             Status::TooLarge { .. } => 8,
             Status::OutOfMemory => 9,
         }
+    }
+}
+
+impl From<AllocError> for Status {
+    ghost use Rattle.std.specs.Prelude.{◌≡◌};
+    ghost use Rattle.conda_engine.specs.declared.status.Status.TheVariants.{OutOfMemory};
+
+    ghost from_gives = { λ _ e. e ≡ OutOfMemory };
+
+    fn from(_: AllocError) -> Self {
+        Status::OutOfMemory
     }
 }

@@ -1,8 +1,10 @@
 // Worked examples of the command, over a host in memory.
-use crate::{Status, conda, status_text};
+use crate::{Status, conda, drive, prepare, status_text};
 use arrayvec::ArrayVec;
+use chip_config::ConfigFault;
 use conda_host::{MemoryHost, Role};
 use elf_loader::ImageFault;
+use run_report::Shown;
 use std::alloc::{AllocError, Global};
 use std::test::Fail;
 
@@ -49,14 +51,32 @@ fn named(alloc: Global, names: &[&str]) -> Result<Vec<String>, AllocError> {
     Ok(words)
 }
 
-// A host with an image and a schedule, of which one call fails, if its number isn't 0.
+// The words of a run, but for its configuration.
+const WORDS: [&str; 9] = [
+    "run",
+    "--image=i",
+    "--schedule",
+    "s",
+    "--order",
+    "order",
+    "--report=report",
+    "--output",
+    "output",
+];
+
+// A host with a configuration, an image and a schedule, of which one call fails, if its number isn't 0.
 fn host_with(
     alloc: Global,
+    config: &[u8],
     image: Vec<u8>,
     schedule: &[u8],
     failing: u64,
 ) -> Result<MemoryHost, AllocError> {
     let mut inputs = Vec::new(alloc);
+    inputs.push((
+        String::from_str(alloc, "c")?,
+        Vec::from_slice(alloc, config)?,
+    ))?;
     inputs.push((String::from_str(alloc, "i")?, image))?;
     let schedule = Vec::from_slice(alloc, schedule)?;
     inputs.push((String::from_str(alloc, "s")?, schedule))?;
@@ -69,17 +89,29 @@ fn host_with(
     MemoryHost::new(alloc, inputs, outputs, 1000, 1000, numbers)
 }
 
-// Runs an image on a schedule.
+// Runs an image on a chip of this configuration.
+fn run_on(
+    alloc: Global,
+    config: &[u8],
+    image: Vec<u8>,
+    schedule: &[u8],
+    failing: u64,
+) -> Result<(Status, MemoryHost), AllocError> {
+    let mut words = named(alloc, &WORDS)?;
+    words.push(String::from_str(alloc, "--config=c")?)?;
+    let mut host = host_with(alloc, config, image, schedule, failing)?;
+    let status = conda(alloc, &words, &mut host);
+    Ok((status, host))
+}
+
+// Runs an image on the chip on which no key is set.
 fn run(
     alloc: Global,
     image: Vec<u8>,
     schedule: &[u8],
     failing: u64,
 ) -> Result<(Status, MemoryHost), AllocError> {
-    let words = named(alloc, &["run", "i", "s", "order", "report", "output"])?;
-    let mut host = host_with(alloc, image, schedule, failing)?;
-    let status = conda(alloc, &words, &mut host);
-    Ok((status, host))
+    run_on(alloc, b"{}", image, schedule, failing)
 }
 
 #[test]
@@ -191,7 +223,7 @@ fn a_misaligned_load(rt: HostRuntime) -> Result<(), Fail> {
 fn a_bad_line(rt: HostRuntime) -> Result<(), Fail> {
     let alloc = rt.alloc();
     let (status, host) = run(alloc, plain(alloc, &ONE_LETTER)?, b"h0 1\nh9 1\n", 0)?;
-    assert_eq!(rt; status, Status::Schedule { line: 2, why: 1 });
+    assert_eq!(rt; status, Status::Schedule { line: 2, why: 3 });
     assert_eq!(rt; host.file("order"), Some(b"s 0\n".as_slice()));
     assert_eq!(rt; host.file("report"), None);
     Ok(())
@@ -212,8 +244,8 @@ fn a_bad_image(rt: HostRuntime) -> Result<(), Fail> {
 fn faults_of_the_host(rt: HostRuntime) -> Result<(), Fail> {
     let alloc = rt.alloc();
     let (status, _) = run(alloc, plain(alloc, &ONE_LETTER)?, b"h0 6", 1)?;
-    assert_eq!(rt; status, Status::ReadFault(Role::Image));
-    let (status, _) = run(alloc, plain(alloc, &ONE_LETTER)?, b"h0 6", 5)?;
+    assert_eq!(rt; status, Status::ReadFault(Role::Config));
+    let (status, _) = run(alloc, plain(alloc, &ONE_LETTER)?, b"h0 6", 8)?;
     assert_eq!(rt; status, Status::WriteFault(Role::Order));
     Ok(())
 }
@@ -229,7 +261,7 @@ fn words_and_lines(rt: HostRuntime) -> Result<(), Fail> {
         1,
         Vec::new(alloc),
     )?;
-    let words = named(alloc, &["run", "i", "s", "o", "r", "i"])?;
+    let words = named(alloc, &WORDS)?;
     let status = conda(alloc, &words, &mut host);
     assert_eq!(rt; status, Status::Usage);
     let mut text: ArrayVec<u8, 128> = ArrayVec::new();
@@ -245,4 +277,44 @@ fn lines_of_statuses(rt: HostRuntime) {
     status_text(&status, &mut text);
     assert_eq!(rt; text.as_slice(), b"conda: image fault 8 1".as_slice());
     assert_eq!(rt; status.code(), 6);
+}
+
+#[test]
+fn a_refused_configuration(rt: HostRuntime) -> Result<(), Fail> {
+    let alloc = rt.alloc();
+    let (status, host) = run_on(alloc, b"{\"harts\":9}", plain(alloc, &ONE_LETTER)?, b"", 0)?;
+    assert_eq!(rt; status, Status::Config(ConfigFault::OutOfRange(1, 9)));
+    assert_eq!(rt; host.file("order"), None);
+    let mut text: ArrayVec<u8, 128> = ArrayVec::new();
+    status_text(&status, &mut text);
+    assert_eq!(rt; text.as_slice(), b"conda: config fault 5 1 9".as_slice());
+    Ok(())
+}
+
+#[test]
+fn two_harts(rt: HostRuntime) -> Result<(), Fail> {
+    let alloc = rt.alloc();
+    let image = plain(alloc, &ONE_LETTER)?;
+    let (status, host) = run_on(alloc, b"{\"harts\":2}", image, b"h1 1\nn0 1\r\nh0 2\n", 0)?;
+    assert_eq!(rt; status, Status::Done);
+    assert_eq!(rt;
+        host.file("order"),
+        Some(b"s 1\n- n0\ns 0\ns 0\n".as_slice())
+    );
+    Ok(())
+}
+
+#[test]
+fn ready_and_driven(rt: HostRuntime) -> Result<(), Fail> {
+    let alloc = rt.alloc();
+    let mut words = named(alloc, &WORDS)?;
+    words.push(String::from_str(alloc, "--config=c")?)?;
+    let mut host = host_with(alloc, b"{}", plain(alloc, &ONE_LETTER)?, b"h0 3", 0)?;
+    let prepared = prepare(alloc, &words, &mut host).ok().ok_or("not ready")?;
+    assert_eq!(rt; prepared.config().harts, 1);
+    let (status, chip) = drive(prepared, &mut host);
+    assert_eq!(rt; status, Status::Done);
+    assert_eq!(rt; chip.harts(), 1);
+    assert_eq!(rt; host.file("output"), Some(b"A".as_slice()));
+    Ok(())
 }

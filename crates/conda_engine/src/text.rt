@@ -2,10 +2,11 @@
 ghost use Rattle.std.specs.Prelude.{◌≡◌, [], ◌++◌, ◌≤◌, ◌+◌, length, codes};
 ghost use Rattle.std.specs.Fmt.{decimal};
 ghost use Rattle.arrayvec.specs.ArrayVec.{array_vec_len};
-ghost use Rattle.conda_engine.specs.StatusText.{name_of_role, image_fault_number, image_fault_held, option_held, text_of_status, IsTold};
+ghost use Rattle.conda_engine.specs.StatusText.{name_of_role, config_fault_number, config_fault_held, held, image_fault_number, image_fault_held, option_held, text_of_status, IsTold};
 
 use crate::Status;
 use arrayvec::ArrayVec;
+use chip_config::ConfigFault;
 use conda_host::Role;
 use elf_loader::ImageFault;
 use schedule_log::{push_bytes, push_decimal};
@@ -49,7 +50,51 @@ fn push_pair(out: &mut Line, first: &[u8], one: u64, second: &[u8], two: u64)
     push_number(out, two);
 }
 
-fn fault_number(fault: ImageFault) -> u8
+// Appends a space and a number that a fault holds.
+fn push_held(out: &mut Line, number: u64)
+    requires { array_vec_len out.old + 21 ≤ 128 }
+    ensures text { out.new.items ≡ out.old.items ++ held number }
+    ensures len { array_vec_len out.new ≤ array_vec_len out.old + 21 }
+{
+    push_bytes(out, b" ");
+    push_number(out, number);
+}
+
+fn config_number(fault: ConfigFault) -> u8
+    ensures { result ≡ config_fault_number fault }
+{
+    match fault {
+        ConfigFault::NotJson => 1,
+        ConfigFault::NotObject => 2,
+        ConfigFault::UnknownKey => 3,
+        ConfigFault::NotNumber(_) => 4,
+        ConfigFault::OutOfRange(_, _) => 5,
+        ConfigFault::BadMemory(_, _) => 6,
+        ConfigFault::OutOfMemory => 0,
+    }
+}
+
+fn push_config_fault(out: &mut Line, fault: ConfigFault)
+    requires { out.old.items ≡ [] }
+    ensures { out.new.items ≡ codes "conda: config fault " ++ decimal (config_fault_number fault) ++ config_fault_held fault }
+{
+    push_bytes(out, b"conda: config fault ");
+    push_number(out, u64::from(config_number(fault)));
+    match fault {
+        ConfigFault::NotNumber(key) => push_held(out, u64::from(key)),
+        ConfigFault::OutOfRange(key, number) => {
+            push_held(out, u64::from(key));
+            push_held(out, number);
+        }
+        ConfigFault::BadMemory(base, bytes) => {
+            push_held(out, u64::from(base));
+            push_held(out, u64::from(bytes));
+        }
+        _ => {}
+    }
+}
+
+fn image_number(fault: ImageFault) -> u8
     ensures { result ≡ image_fault_number fault }
 {
     match fault {
@@ -94,10 +139,9 @@ fn push_image_fault(out: &mut Line, fault: ImageFault)
     ensures { out.new.items ≡ codes "conda: image fault " ++ decimal (image_fault_number fault) ++ image_fault_held fault }
 {
     push_bytes(out, b"conda: image fault ");
-    push_number(out, u64::from(fault_number(fault)));
+    push_number(out, u64::from(image_number(fault)));
     if let Some(held) = held_by(fault) {
-        push_bytes(out, b" ");
-        push_number(out, u64::from(held));
+        push_held(out, u64::from(held));
     }
 }
 
@@ -118,6 +162,7 @@ pub fn status_text(s: &Status, out: &mut ArrayVec<u8, 128>)
             push_bytes(out, b"conda: cannot write ");
             push_bytes(out, role_name(role));
         }
+        Status::Config(fault) => push_config_fault(out, fault),
         Status::Image(fault) => push_image_fault(out, fault),
         Status::Schedule { line, why } => {
             push_bytes(out, b"conda: ");

@@ -1,19 +1,91 @@
 use Rattle.std.proofs.Common.{map, string_bytes}
-use Rattle.conda_engine.specs.Words.{named}
-use Rattle.conda_engine.proofs.CommandFacts.{apart_of_files, done_of_outcome, complete_of_answer, stopped_of_outcome}
+use Rattle.command_words.specs.Words.{run_files}
+use Rattle.conda_engine.proofs.CommandFacts.{ends_for, done_for, answer_for, cause_for, complete_for, stopped_for, fronts_for, others_for, unready_complete}
 use Rattle.conda_engine.proofs.command.conda.Goals as goal
 
-pub run_command-requires : goal.run_command-requires
-run_command-requires g c = apart_of_files (map string_bytes c.args.words.now) (named c.in-Some.names) c.in-Some.ensures
+pub returns-in-Ok-clause-done : goal.returns-in-Ok-clause-done
+returns-in-Ok-clause-done g c = λ d.
+    done_for (run_files (map string_bytes c.args.words.now)) (g.H.Host.state c.args.host.now) (g.H.Host.state c.drive-status.new.host) c.drive-status.result.0
+    (ends_for (run_files (map string_bytes c.args.words.now)) (g.H.Host.state c.args.host.now) (g.H.Host.state c.prepare.new.host) (g.H.Host.state c.drive-status.new.host) c.in-Ok.prepared c.drive-status.result.0
+    c.in-Ok.ensures.ready c.in-Ok.ensures.unmade c.drive-status.ensures.later
+    (λ s stands. record {
+      answered = c.drive-status.ensures.answer s stands;
+      caused = c.drive-status.ensures.cause;
+      done = λ d. c.drive-status.ensures.done d s stands;
+      stopped = λ stop. c.drive-status.ensures.stopped stop s stands;
+      fronts = c.drive-status.ensures.fronts s stands;
+    })) d
 
-pub returns-clause-done : goal.returns-clause-done
-returns-clause-done g c = λ is. rw c.in-Some.ensures (done_of_outcome (named c.in-Some.names) _ _ _ c.run_command.ensures.later c.run_command.ensures.outcome is)
+pub returns-in-Ok-clause-answer : goal.returns-in-Ok-clause-answer
+returns-in-Ok-clause-answer g c =
+    answer_for (run_files (map string_bytes c.args.words.now)) (g.H.Host.state c.args.host.now) (g.H.Host.state c.drive-status.new.host) c.drive-status.result.0
+    (ends_for (run_files (map string_bytes c.args.words.now)) (g.H.Host.state c.args.host.now) (g.H.Host.state c.prepare.new.host) (g.H.Host.state c.drive-status.new.host) c.in-Ok.prepared c.drive-status.result.0
+    c.in-Ok.ensures.ready c.in-Ok.ensures.unmade c.drive-status.ensures.later
+    (λ s stands. record {
+      answered = c.drive-status.ensures.answer s stands;
+      caused = c.drive-status.ensures.cause;
+      done = λ d. c.drive-status.ensures.done d s stands;
+      stopped = λ stop. c.drive-status.ensures.stopped stop s stands;
+      fronts = c.drive-status.ensures.fronts s stands;
+    }))
 
-pub returns-clause-answer : goal.returns-clause-answer
-returns-clause-answer g c = rw c.in-Some.ensures c.run_command.ensures.outcome.answered
+pub returns-in-Ok-clause-cause : goal.returns-in-Ok-clause-cause
+returns-in-Ok-clause-cause g c =
+    cause_for (run_files (map string_bytes c.args.words.now)) (g.H.Host.state c.args.host.now) (g.H.Host.state c.drive-status.new.host) c.drive-status.result.0
+    (ends_for (run_files (map string_bytes c.args.words.now)) (g.H.Host.state c.args.host.now) (g.H.Host.state c.prepare.new.host) (g.H.Host.state c.drive-status.new.host) c.in-Ok.prepared c.drive-status.result.0
+    c.in-Ok.ensures.ready c.in-Ok.ensures.unmade c.drive-status.ensures.later
+    (λ s stands. record {
+      answered = c.drive-status.ensures.answer s stands;
+      caused = c.drive-status.ensures.cause;
+      done = λ d. c.drive-status.ensures.done d s stands;
+      stopped = λ stop. c.drive-status.ensures.stopped stop s stands;
+      fronts = c.drive-status.ensures.fronts s stands;
+    }))
 
-pub returns-clause-complete : goal.returns-clause-complete
-returns-clause-complete g c = rw c.in-Some.ensures (complete_of_answer (named c.in-Some.names) _ _ _ c.run_command.ensures.outcome.answered)
+pub returns-in-Ok-clause-complete : goal.returns-in-Ok-clause-complete
+returns-in-Ok-clause-complete g c =
+    complete_for (run_files (map string_bytes c.args.words.now)) (g.H.Host.state c.args.host.now) (g.H.Host.state c.drive-status.new.host) c.drive-status.result.0
+    (ends_for (run_files (map string_bytes c.args.words.now)) (g.H.Host.state c.args.host.now) (g.H.Host.state c.prepare.new.host) (g.H.Host.state c.drive-status.new.host) c.in-Ok.prepared c.drive-status.result.0
+    c.in-Ok.ensures.ready c.in-Ok.ensures.unmade c.drive-status.ensures.later
+    (λ s stands. record {
+      answered = c.drive-status.ensures.answer s stands;
+      caused = c.drive-status.ensures.cause;
+      done = λ d. c.drive-status.ensures.done d s stands;
+      stopped = λ stop. c.drive-status.ensures.stopped stop s stands;
+      fronts = c.drive-status.ensures.fronts s stands;
+    }))
 
-pub returns-clause-stopped : goal.returns-clause-stopped
-returns-clause-stopped g c = λ stop. rw c.in-Some.ensures (stopped_of_outcome (named c.in-Some.names) _ _ _ c.run_command.ensures.later c.run_command.ensures.outcome stop)
+pub returns-in-Ok-clause-stopped : goal.returns-in-Ok-clause-stopped
+returns-in-Ok-clause-stopped g c = λ stop.
+    stopped_for (run_files (map string_bytes c.args.words.now)) (g.H.Host.state c.args.host.now) (g.H.Host.state c.drive-status.new.host) c.drive-status.result.0
+    (ends_for (run_files (map string_bytes c.args.words.now)) (g.H.Host.state c.args.host.now) (g.H.Host.state c.prepare.new.host) (g.H.Host.state c.drive-status.new.host) c.in-Ok.prepared c.drive-status.result.0
+    c.in-Ok.ensures.ready c.in-Ok.ensures.unmade c.drive-status.ensures.later
+    (λ s stands. record {
+      answered = c.drive-status.ensures.answer s stands;
+      caused = c.drive-status.ensures.cause;
+      done = λ d. c.drive-status.ensures.done d s stands;
+      stopped = λ stop. c.drive-status.ensures.stopped stop s stands;
+      fronts = c.drive-status.ensures.fronts s stands;
+    })) stop
+
+pub returns-in-Ok-clause-fronts : goal.returns-in-Ok-clause-fronts
+returns-in-Ok-clause-fronts g c =
+    fronts_for (run_files (map string_bytes c.args.words.now)) (g.H.Host.state c.args.host.now) (g.H.Host.state c.drive-status.new.host) c.drive-status.result.0
+    (ends_for (run_files (map string_bytes c.args.words.now)) (g.H.Host.state c.args.host.now) (g.H.Host.state c.prepare.new.host) (g.H.Host.state c.drive-status.new.host) c.in-Ok.prepared c.drive-status.result.0
+    c.in-Ok.ensures.ready c.in-Ok.ensures.unmade c.drive-status.ensures.later
+    (λ s stands. record {
+      answered = c.drive-status.ensures.answer s stands;
+      caused = c.drive-status.ensures.cause;
+      done = λ d. c.drive-status.ensures.done d s stands;
+      stopped = λ stop. c.drive-status.ensures.stopped stop s stands;
+      fronts = c.drive-status.ensures.fronts s stands;
+    }))
+
+pub returns-in-Ok-clause-others : goal.returns-in-Ok-clause-others
+returns-in-Ok-clause-others g c =
+    others_for (run_files (map string_bytes c.args.words.now)) (g.H.Host.state c.args.host.now) (g.H.Host.state c.prepare.new.host) (g.H.Host.state c.drive-status.new.host) c.in-Ok.prepared
+    c.in-Ok.ensures.ready c.in-Ok.ensures.unmade c.drive-status.ensures.others
+
+pub returns-in-Err-clause-complete : goal.returns-in-Err-clause-complete
+returns-in-Err-clause-complete g c =
+    unready_complete (run_files (map string_bytes c.args.words.now)) (g.H.Host.state c.args.host.now) (g.H.Host.state c.prepare.new.host) c.in-Err.status c.in-Err.ensures.unready
