@@ -1,9 +1,15 @@
 -- What a chip is after a list of events.
 use Rattle.std.specs.Prelude.{ℕ, ◌≡◌, ◌<◌, List, length, slice_get, Some}
 use Rattle.conda_base.specs.declared.actor.Actor.{Actor}
+use Rattle.chip_config.specs.declared.config.Config.{Config}
+use Rattle.elf_loader.specs.Image.{ImageView}
 use Rattle.offload_calls.specs.State.{Setup, State, status_of}
 use Rattle.chip_core.specs.ChipView.{ChipView}
 use Rattle.chip_core.specs.Runs.{flat}
+
+-- a configuration's chip, with an image loaded
+abbrev pub setup_for : Config → ImageView → Setup
+setup_for config image = record { code = image.code; entry = image.entry; harts = config.harts; cores = config.cores; line_bytes = config.line_bytes }
 
 -- the chip's configuration and image are the setup's, and its memory, harts and cores are the flat state's
 pub record Shows (s : Setup) (c : ChipView) (f : State) : Type 0 where

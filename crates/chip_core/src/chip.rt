@@ -3,15 +3,17 @@ ghost use Rattle.std.specs.Prelude.{ℕ, ◌≡◌, ◌∷◌, [], ◌++◌, ◌
 ghost use Rattle.conda_base.specs.declared.actor.Actor.{Actor};
 ghost use Rattle.conda_base.specs.Lines.{IsLineOf};
 ghost use Rattle.offload_calls.specs.State.{Setup, start_hart};
-ghost use Rattle.chip_core.specs.ChipView.{IsWholeLines, has};
+ghost use Rattle.chip_core.specs.ChipView.{has};
 ghost use Rattle.chip_core.specs.Runs.{next, flat};
-ghost use Rattle.chip_core.specs.Stands.{Stands};
+ghost use Rattle.chip_core.specs.Stands.{Stands, setup_for};
 
 use crate::acting::hart_event;
 use crate::cores::Cores;
 use crate::event::Event;
 use arrayvec::ArrayVec;
+use chip_config::Config;
 use conda_base::{Actor, Line, line_of};
+use elf_loader::Image;
 use offload_calls::{CoreStatus, Hart, HartStatus};
 use run_report::Shown;
 use rv32_hart::{Code, Regs};
@@ -41,25 +43,19 @@ impl Model for Chip {
 
 impl Chip {
     /// A chip at its start: memory holds the image, and each hart is at the entry.
-    pub fn new(
-        alloc: Global,
-        harts: u8,
-        cores: u8,
-        line_bytes: u32,
-        entry: u32,
-        code: Code,
-    ) -> Result<Chip, AllocError>
-        requires harts { harts ≤ 8 }
-        requires cores { cores ≤ 4 }
-        requires lines { IsWholeLines code line_bytes }
-        ensures { IfOk result (λ chip. Stands (record { code = code; entry = entry; harts = harts; cores = cores; line_bytes = line_bytes }) chip []) }
+    pub fn new(alloc: Global, config: &Config, image: Image) -> Result<Chip, AllocError>
+        requires base { image.code.base ≡ config.now.mem_base }
+        requires bytes { length image.code.bytes ≡ config.now.mem_bytes }
+        ensures { IfOk result (λ chip. Stands (setup_for config.now image) chip []) }
     {
+        let entry = image.entry();
+        let code = image.into_code();
         let memory = Vec::from_slice(alloc, code.bytes())?;
-        let harts = start_harts(alloc, harts, entry)?;
-        let cores = Cores::new(alloc, cores)?;
+        let harts = start_harts(alloc, config.harts, entry)?;
+        let cores = Cores::new(alloc, config.cores)?;
         Ok(Chip {
             code,
-            line_bytes,
+            line_bytes: config.line_bytes,
             memory,
             harts,
             cores,
@@ -167,15 +163,15 @@ fn hand_out(bytes: &[u8], place: usize, line_bytes: u32, out: &mut [u8; 128])
 }
 
 // The harts at the entry, each with its number in x10 and the number of harts in x11.
-fn start_harts(alloc: Global, many: u8, entry: u32) -> Result<Vec<Hart>, AllocError>
+fn start_harts(alloc: Global, many: u32, entry: u32) -> Result<Vec<Hart>, AllocError>
     ensures many { IfOk result (λ harts. length harts.items ≡ many) }
     ensures start { IfOk result (λ harts. (h : ℕ) → h < many → slice_get harts.items h ≡ Some (start_hart entry many h)) }
 {
     let mut harts = Vec::with_capacity(alloc, many as usize)?;
     for number in 0..many {
         let mut regs = Regs::new(entry);
-        regs.x[10] = u32::from(number);
-        regs.x[11] = u32::from(many);
+        regs.x[10] = number;
+        regs.x[11] = many;
         harts.push(Hart {
             regs,
             status: HartStatus::Run,

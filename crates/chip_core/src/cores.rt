@@ -17,7 +17,7 @@ pub struct Cores {
 
 impl Cores {
     /// So many idle cores, with all registers and pc 0.
-    pub fn new(alloc: Global, many: u8) -> Result<Cores, AllocError>
+    pub fn new(alloc: Global, many: u32) -> Result<Cores, AllocError>
         requires { many ≤ 4 }
         ensures statuses { IfOk result (λ cores. cores.statuses.items ≡ replicate many CoreStatus.Idle) }
         ensures registers { IfOk result (λ cores. cores.registers.items ≡ replicate many (start_regs 0)) }

@@ -8,3 +8,6 @@ mod event;
 
 pub use chip::Chip;
 pub use event::Event;
+
+#[cfg(test)]
+mod tests;

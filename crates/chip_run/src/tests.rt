@@ -1,38 +1,36 @@
 // Worked examples over a host in memory.
-ghost use Rattle.std.specs.Prelude.{◌≤◌, false, IsTrue, IfOk, OnOk};
+ghost use Rattle.std.specs.Prelude.{◌≤◌, false, IsTrue, OnOk};
 ghost use Rattle.conda_host.specs.State.{IsOpened, IsCreated};
 ghost use Rattle.conda_host.specs.declared.outside.Role.TheVariants as role;
-ghost use Rattle.chip_core.specs.ChipView.{IsWholeLines};
 ghost use Rattle.chip_run.specs.Frames.{AreCreated};
 
 use crate::{Ending, ScheduleRun, TextWriter, run_schedule};
-use arrayvec::ArrayVec;
+use chip_config::Config;
 use chip_core::Chip;
 use conda_host::{Host, HostFailed, MemoryHost, Role};
-use rv32_hart::Code;
+use elf_loader::load;
 use std::alloc::{AllocError, Global};
 use std::test::Fail;
 
-// addi x10,x0,65; addi x17,x0,1003; ecall; addi x10,x0,0; addi x17,x0,93; ecall
-const ONE_LETTER: [u8; 24] = [
-    0x13, 0x05, 0x10, 0x04, 0x93, 0x08, 0xb0, 0x3e, 0x73, 0x00, 0x00, 0x00, 0x13, 0x05, 0x00, 0x00,
-    0x93, 0x08, 0xd0, 0x05, 0x73, 0x00, 0x00, 0x00,
+// An executable of six words at 65536: addi x10,x0,65; addi x17,x0,1003; ecall; addi x10,x0,0; addi x17,x0,93; ecall.
+const ONE_LETTER: [u8; 108] = [
+    0x7f, b'E', b'L', b'F', 1, 1, 1, 0, 0, 0, 0, 0, 0, 0, 0, 0, // identification
+    2, 0, 243, 0, 1, 0, 0, 0, // an executable for RISC-V
+    0, 0, 1, 0, 52, 0, 0, 0, 0, 0, 0, 0, 0, 0, 0, 0, // entry, program headers, sections, flags
+    52, 0, 32, 0, 1, 0, 0, 0, 0, 0, 0, 0, // sizes and numbers
+    1, 0, 0, 0, 84, 0, 0, 0, 0, 0, 1, 0, 0, 0, 1, 0, // PT_LOAD, offset, addresses
+    24, 0, 0, 0, 24, 0, 0, 0, 7, 0, 0, 0, 4, 0, 0, 0, // sizes, flags, alignment
+    0x13, 0x05, 0x10, 0x04, 0x93, 0x08, 0xb0, 0x3e, 0x73, 0, 0, 0, //
+    0x13, 0x05, 0, 0, 0x93, 0x08, 0xd0, 0x05, 0x73, 0, 0, 0,
 ];
 
-// An image at 65536 that puts one letter.
-fn one_letter(alloc: Global) -> Result<Code, AllocError>
-    ensures { IfOk result (λ code. IsWholeLines code 64) }
-{
-    let mut bytes = vec![in alloc; 0u8; 69_632]?;
-    bytes[65_536..65_560].copy_from_slice(&ONE_LETTER);
-    let mut ranges = ArrayVec::new();
-    ranges.push((65_536, 24));
-    Ok(Code::new(0, bytes, ranges))
-}
-
-fn chip(alloc: Global) -> Result<Chip, AllocError> {
-    let code = one_letter(alloc)?;
-    Chip::new(alloc, 1, 1, 64, 65_536, code)
+// A chip of one hart and one core.
+fn chip(alloc: Global) -> Result<Chip, Fail> {
+    let config = Config::plain();
+    let image = load(alloc, &ONE_LETTER, config.mem_base, config.mem_bytes)
+        .ok()
+        .ok_or("image")?;
+    Ok(Chip::new(alloc, &config, image)?)
 }
 
 // A host with the schedule "s", and room for one file "order".

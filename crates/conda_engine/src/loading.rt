@@ -74,16 +74,7 @@ fn chip_of(alloc: Global, config: &Config, file: &[u8]) -> Result<Chip, Status>
         Err(ImageFault::OutOfMemory) => return Err(Status::OutOfMemory),
         Err(fault) => return Err(Status::Image(fault)),
     };
-    let (harts, cores) = (config.harts as u8, config.cores as u8);
-    let entry = image.entry();
-    let chip = Chip::new(
-        alloc,
-        harts,
-        cores,
-        config.line_bytes,
-        entry,
-        image.into_code(),
-    )?;
+    let chip = Chip::new(alloc, config, image)?;
     Ok(chip)
 }
 

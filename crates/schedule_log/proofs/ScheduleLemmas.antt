@@ -1,12 +1,9 @@
 -- What reading a schedule uses of its definitions.
-use Rattle.std.proofs.Common.{◌≡◌, ℕ, ◌+◌, ◌-◌, ◌*◌, ◌<◌, ◌≤◌, ◌==◌, ◌&&◌, ◌||◌, suc, subst, Bool, true, false, not, List, [], ◌∷◌, ◌++◌, length, take, drop, get_or, refl, sym, ◌∙◌, ap, arith, add-one, drop-cons}
+use Rattle.std.proofs.Common.{◌≡◌, ℕ, ◌+◌, ◌-◌, ◌*◌, ◌<◌, ◌≤◌, ◌==◌, ◌&&◌, ◌||◌, Bool, true, false, not, List, [], ◌∷◌, ◌++◌, length, drop, get_or, refl, ap, arith, add-one, drop-cons}
 use Rattle.std.specs.Prelude.{Option, Some, None}
-use Rattle.std.specs.List.{list_all, list_any, position, position_from}
-use Rattle.std.proofs.lemmas.Iterator.Adapters.{position_from-zero}
-use Rattle.std.proofs.lemmas.Bool.{eqb-true}
+use Rattle.std.specs.List.{list_all, list_any}
 use Rattle.std.proofs.lemmas.Bool.Decides.{nat_tests}
-use Rattle.std.proofs.lemmas.Grind.{common_steps}
-use Rattle.schedule_log.specs.Schedule.{is_digit, number_after, begins_above_zero, count_of, is_feed, onto_first, ended_lines, last_part, is_last_line, last_line, judged_lines}
+use Rattle.schedule_log.specs.Schedule.{is_digit, number_after, begins_above_zero, count_of, is_feed, onto_first, ended_lines, last_part}
 
 or_false : (a b : Bool) → (a || b) ≡ false → (a ≡ false) × (b ≡ false)
 or_false true b h = cc
@@ -83,70 +80,3 @@ ended_lines_none (byte ∷ text) none =
 pub last_part_none : (text : List ℕ) → list_any is_feed text ≡ false → last_part text ≡ text
 last_part_none [] none = refl
 last_part_none (byte ∷ text) none = rw none refl
-
--- the text is a line of j bytes, a line feed, and more
-record Splits (text : List ℕ) (j : ℕ) : Type 0 where
-  below : j < length text
-  front : list_any is_feed (take j text) ≡ false
-  parts : text ≡ take j text ++ 10 ∷ drop (suc j) text
-
-split_at_feed : (text : List ℕ) (n k : ℕ) → position_from is_feed n text ≡ Some k → (j : ℕ) × (k ≡ n + j) × Splits text j
-split_at_feed [] n k found = cc
-split_at_feed (byte ∷ text) n k found = go (λ later. split_at_feed text (n + 1) k later) (is_feed byte) refl
-  where
-    go : (position_from is_feed (n + 1) text ≡ Some k → (j : ℕ) × (k ≡ n + 1 + j) × Splits text j) → (b : Bool) → is_feed byte ≡ b → (j : ℕ) × (k ≡ n + j) × Splits (byte ∷ text) j
-    go after true is =
-        let same : Some n ≡ Some k = rw is at found in
-        let equal : n ≡ k = cc in
-        (0, omega arith, record { below = omega arith; front = refl; parts = ap (λ b. b ∷ text) (eqb-true byte 10 is) })
-    go after false is =
-        let split = after (rw is at found) in
-        let below = split.2.below in
-        (suc split.0, omega (arith, split.1), record { below = omega arith; front = rw is split.2.front; parts = ap (λ t. byte ∷ t) split.2.parts })
-
--- the lines of a text with a line feed, and of one with none
-pub judged_at_feed : (more : Bool) (text : List ℕ) (k : ℕ) → position_from is_feed 0 text ≡ Some k → judged_lines more text ≡ take k text ∷ judged_lines more (drop (suc k) text)
-judged_at_feed more text k found =
-    let split = split_at_feed text 0 k found in
-    let same : split.0 ≡ k = omega (arith, split.1) in
-    let fits : Splits text k = subst (λ j. Splits text j) same split.2 in
-    ap (judged_lines more) fits.parts
-    ∙ ap (λ lines. lines ++ last_line more (last_part (take k text ++ 10 ∷ drop (suc k) text))) (ended_lines_at (take k text) (drop (suc k) text) fits.front)
-    ∙ ap (λ part. take k text ∷ (ended_lines (drop (suc k) text) ++ last_line more part)) (last_part_at (take k text) (drop (suc k) text))
-
-pub feed_below : (text : List ℕ) (k : ℕ) → position_from is_feed 0 text ≡ Some k → k < length text
-feed_below text k found =
-    let split = split_at_feed text 0 k found in
-    let below = split.2.below in
-    omega (arith, split.1)
-
-no_feed : (text : List ℕ) (n : ℕ) → position_from is_feed n text ≡ None → list_any is_feed text ≡ false
-no_feed [] n found = refl
-no_feed (byte ∷ text) n found = go (λ later. no_feed text (n + 1) later) (is_feed byte) refl
-  where
-    go : (position_from is_feed (n + 1) text ≡ None → list_any is_feed text ≡ false) → (b : Bool) → is_feed byte ≡ b → list_any is_feed (byte ∷ text) ≡ false
-    go after true is = let other : Some n ≡ None = rw is at found in cc
-    go after false is = rw is (after (rw is at found))
-
-pub judged_at_none : (more : Bool) (text : List ℕ) → position_from is_feed 0 text ≡ None → judged_lines more text ≡ last_line more text
-judged_at_none more text found =
-    let none = no_feed text 0 found in
-    ap (λ lines. lines ++ last_line more (last_part text)) (ended_lines_none text none) ∙ ap (last_line more) (last_part_none text none)
-
-pub judged_empty : (more : Bool) → judged_lines more [] ≡ []
-judged_empty true = refl
-judged_empty false = refl
-
-pub judged_last : (more : Bool) (text : List ℕ) → position_from is_feed 0 text ≡ None → is_last_line more text ≡ true → judged_lines more text ≡ text ∷ judged_lines more []
-judged_last more text found is = judged_at_none more text found ∙ rw is (ap (λ lines. text ∷ lines) (sym (judged_empty more)))
-
-pub judged_no_last : (more : Bool) (text : List ℕ) → position_from is_feed 0 text ≡ None → is_last_line more text ≡ false → judged_lines more text ≡ []
-judged_no_last more text found is = judged_at_none more text found ∙ rw is refl
-
--- what follows a place, as the code takes it
-pub rest_from : (text : List ℕ) (k : ℕ) → take (length text - (k + 1)) (drop (k + 1) text) ≡ drop (suc k) text
-rest_from text k = rw (add-one) (grind (arith, common_steps))
-
--- a place as the code gives it, counted from the front
-pub place_from : (text : List ℕ) (place found : Option ℕ) → place ≡ position is_feed text → place ≡ found → position_from is_feed 0 text ≡ found
-place_from text place found of_text is = sym (position_from-zero is_feed text) ∙ sym of_text ∙ is

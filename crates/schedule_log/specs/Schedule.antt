@@ -1,8 +1,6 @@
--- A schedule's lines, and the events that they ask for.
-use Rattle.std.specs.Prelude.{ℕ, ◌+◌, ◌-◌, ◌*◌, ◌==◌, ◌&&◌, Bool, false, not, List, [], ◌∷◌, ◌++◌, length, drop, replicate, codes, Option, Some, None, is_some, if◌then◌else◌, nat_eq, nat_le, nat_lt}
-use Rattle.std.specs.List.{list_all, list_any, starts_with}
-use Rattle.conda_base.specs.declared.actor.Actor.{Actor}
-use Rattle.conda_base.specs.declared.actor.Actor.TheVariants.{Hart}
+-- A schedule's lines, and the counts in them.
+use Rattle.std.specs.Prelude.{ℕ, ◌+◌, ◌-◌, ◌*◌, ◌==◌, ◌&&◌, Bool, false, not, List, [], ◌∷◌, ◌++◌, length, Option, Some, None, if◌then◌else◌, nat_le, nat_lt}
+use Rattle.std.specs.List.{list_all, list_any}
 
 -- one of the digits 0 to 9
 abbrev pub is_digit : ℕ → Bool
@@ -25,10 +23,6 @@ is_count digits = begins_above_zero digits && list_all is_digit digits && nat_le
 -- the number that such digits write
 abbrev pub count_of : List ℕ → Option ℕ
 count_of digits = if is_count digits then Some (number_after 0 digits) else None
-
--- a line is h0, a space and a count
-abbrev pub line_count : List ℕ → Option ℕ
-line_count line = if starts_with nat_eq line (codes "h0 ") then count_of (drop 3 line) else None
 
 -- a line feed
 abbrev pub is_feed : ℕ → Bool
@@ -61,30 +55,3 @@ last_line more part = if is_last_line more part then part ∷ [] else []
 -- the lines of a text that may be the beginning of a longer one
 abbrev pub judged_lines : Bool → List ℕ → List (List ℕ)
 judged_lines more text = ended_lines text ++ last_line more (last_part text)
-
--- the lines of a whole text
-abbrev pub lines_of : List ℕ → List (List ℕ)
-lines_of text = judged_lines false text
-
--- the first bad line, where the first of these lines has this number
-abbrev pub first_bad_from : ℕ → List (List ℕ) → Option ℕ
-first_bad_from n [] = None
-first_bad_from n (line ∷ lines) = if is_some (line_count line) then first_bad_from (n + 1) lines else Some n
-
--- the first bad line, counted from 1
-abbrev pub first_bad : List (List ℕ) → Option ℕ
-first_bad lines = first_bad_from 1 lines
-
--- so many events of hart 0
-abbrev pub hart_events : ℕ → List Actor
-hart_events count = replicate count (Hart 0)
-
--- a line's events before those of the lines after it; a bad line has none, and none follow
-abbrev pub events_before : Option ℕ → List Actor → List Actor
-events_before None after = []
-events_before (Some count) after = hart_events count ++ after
-
--- the events of the lines before the first bad one
-abbrev pub good_events : List (List ℕ) → List Actor
-good_events [] = []
-good_events (line ∷ lines) = events_before (line_count line) (good_events lines)

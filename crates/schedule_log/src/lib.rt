@@ -9,7 +9,6 @@ mod fed;
 mod laws;
 mod line;
 mod reader;
-mod schedule;
 
 pub use bytes::{push_bytes, push_decimal};
 pub use entry::{Entry, entry_text};
@@ -17,7 +16,6 @@ pub use entry_reading::read_entry;
 pub use fed::{Fed, Last};
 pub use laws::{fine_runs_all, one_text_one_entry, pieces_join};
 pub use reader::Reader;
-pub use schedule::{next_line, read_line};
 
 #[cfg(test)]
 mod tests;
