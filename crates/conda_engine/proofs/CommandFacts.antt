@@ -14,7 +14,7 @@ use Rattle.conda_engine.specs.Command.{IsCommandAnswer, IsCommandComplete, aim_o
 use Rattle.conda_engine.specs.Faults.{bytes_of, IsAnswer, IsCaused}
 use Rattle.conda_engine.specs.Outcome.{Ends, IsDone, IsStop, HasStopped, HasFront, HasFronts, KeepsOthers}
 use Rattle.conda_engine.specs.Preparing.{IsReadyFor, IsUnready, OnlyReads, PreparedView}
-use Rattle.conda_engine.specs.Verdict.{Aim, aim_of_schedule, events_that_run, numbers_of, setup_of, status_of_bytes, status_of_image, status_of_schedule, texts_of_events}
+use Rattle.conda_engine.specs.Verdict.{Aim, aim_of_schedule, aim_with, numbers_of, setup_of, status_of_bytes, status_of_image, status_of_schedule}
 use Rattle.conda_engine.proofs.DriveFacts.{fault_after, caused_after, complete_of_answer}
 use Rattle.conda_engine.proofs.PrepareFacts.{verdict_of_image, verdict_of_schedule}
 
@@ -37,9 +37,9 @@ ends_after files a b c first second answer p q same h = record {
   answered = answered_at h.answered;
   caused = caused_after files a b c answer p.later h.caused;
   done = λ d. record {
-    order = λ tells. (h.done d).order (at_b tells) ∙ ap (λ t. Some t.texts.order) (same tells);
-    report = λ tells. (h.done d).report (at_b tells) ∙ ap (λ t. Some t.texts.report) (same tells);
-    output = λ tells. subst (λ t. IfSome files.output (λ name. c.file name ≡ Some t.texts.output)) (same tells) ((h.done d).output (at_b tells));
+    order = λ tells. (h.done d).order (at_b tells) ∙ ap (λ t. Some t.whole.order) (same tells);
+    report = λ tells. (h.done d).report (at_b tells) ∙ ap (λ t. Some t.whole.report) (same tells);
+    output = λ tells. subst (λ t. IfSome files.output (λ name. c.file name ≡ Some t.whole.output)) (same tells) ((h.done d).output (at_b tells));
   };
   stopped = λ st. record {
     order = λ tells. (h.stopped st).order (at_b tells) ∙ ap (λ t. Some t.texts.order) (same tells);
@@ -78,10 +78,10 @@ aim_same files a b p h r tells =
     ∙ ap (λ i. status_of_image numbers i schedule) shown
     ∙ sym (verdict_of_image a files.config numbers (bytes_of a files.image) schedule h.config tells)
     ∙ ap (status_of_bytes (bytes_of a files.config) (bytes_of a files.image)) told in
-    ap (λ v. record { verdict = v; texts = texts_of_events (setup_of numbers image) (events_that_run (setup_of numbers image) schedule) }) verdict
-    ∙ ap (λ n. record { verdict = (aim_of files a).verdict; texts = texts_of_events (setup_of n image) (events_that_run (setup_of n image) schedule) }) said
-    ∙ ap (λ i. record { verdict = (aim_of files a).verdict; texts = texts_of_events (setup_of (numbers_of (configured (bytes_of a files.config))) i) (events_that_run (setup_of (numbers_of (configured (bytes_of a files.config))) i) schedule) }) shown
-    ∙ ap (λ b. record { verdict = (aim_of files a).verdict; texts = texts_of_events (setup_of (numbers_of (configured (bytes_of a files.config))) (bytes_of a files.image)) (events_that_run (setup_of (numbers_of (configured (bytes_of a files.config))) (bytes_of a files.image)) b) }) told
+    ap (λ v. aim_with v (setup_of numbers image) schedule) verdict
+    ∙ ap (λ n. aim_with (aim_of files a).verdict (setup_of n image) schedule) said
+    ∙ ap (λ i. aim_with (aim_of files a).verdict (setup_of (numbers_of (configured (bytes_of a files.config))) i) schedule) shown
+    ∙ ap (aim_with (aim_of files a).verdict (setup_of (numbers_of (configured (bytes_of a files.config))) (bytes_of a files.image))) told
 
 -- a run that was made ready and driven
 pub ends_of_command : (files : Files) (a b c : HostState) (p : PreparedView) (answer : Status) → IsReadyFor files a p → OnlyReads a b → IsLater b c
@@ -98,7 +98,7 @@ pub ends_for : (o : Option Files) (a b c : HostState) (p : PreparedView) (answer
 ends_for None a b c p answer h r q ends = tt
 ends_for (Some files) a b c p answer h r q ends = ends_of_command files a b c p answer h r q ends
 
-pub done_for : (o : Option Files) (a c : HostState) (answer : Status) → IfSome o (λ files. Ends files a c (aim_of files a) answer) → answer ≡ status.Done → IfSome o (λ files. IsDone files a c (aim_of files a).texts)
+pub done_for : (o : Option Files) (a c : HostState) (answer : Status) → IfSome o (λ files. Ends files a c (aim_of files a) answer) → answer ≡ status.Done → IfSome o (λ files. IsDone files a c (aim_of files a).whole)
 done_for None a c answer h d = tt
 done_for (Some files) a c answer h d = h.done d
 

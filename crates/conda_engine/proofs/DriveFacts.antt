@@ -8,6 +8,8 @@ use Rattle.conda_host.specs.declared.outside.Role.TheVariants as role
 use Rattle.conda_host.specs.State.{HostState, IsLater, IsReading, IsCreating, IsCreated, Creates, Rose}
 use Rattle.conda_host.specs.Whole.{WritesWhole}
 use Rattle.conda_host.proofs.Steps.{rose_after, later_trans}
+use Rattle.schedule_log.specs.Verdict.{Verdict, Fine, BadLine, TooLarge, schedule_verdict}
+use Rattle.schedule_log.proofs.LawLemmas.{fine_runs_every}
 use Rattle.offload_calls.specs.State.{Setup}
 use Rattle.run_report.specs.Texts.{report_text}
 use Rattle.chip_core.specs.ChipView.{ChipView}
@@ -23,11 +25,34 @@ use Rattle.chip_run.specs.Texts.{Names, HasText, HasOutput, HoldsFront, HoldsOut
 use Rattle.command_words.specs.Words.{Files, AreApart}
 use Rattle.conda_engine.specs.declared.status.Status.{Status}
 use Rattle.conda_engine.specs.declared.status.Status.TheVariants as status
-use Rattle.conda_engine.specs.Driving.{EndsRun, IsStarted, IsRunEnd, IsReported, EndsReport, HasRunSchedule, StandsAfter, report_of_run, text_names}
+use Rattle.conda_engine.specs.Driving.{EndsRun, IsStarted, IsRunEnd, IsReported, EndsReport, HasRunSchedule, StandsAfter, report_of_run, text_names, events_until}
 use Rattle.conda_engine.specs.Faults.{bytes_of, IsFault, IsCaused, IsAnswer}
 use Rattle.conda_engine.specs.Outcome.{Ends, IsComplete, IsStop, HasFront, HasFronts, KeepsRole}
 use Rattle.conda_engine.specs.Preparing.{IsUnused}
-use Rattle.conda_engine.specs.Verdict.{Texts, aim_of_schedule, texts_of_events, events_that_run, status_of_schedule}
+use Rattle.conda_engine.specs.Verdict.{Texts, aim_of_schedule, texts_of_events, events_that_run, all_events, status_of, status_of_schedule}
+
+-- ---- at Done every event ran
+
+fine_at_done : (v : Verdict) → status_of v ≡ status.Done → v ≡ Fine
+fine_at_done Fine h = refl
+fine_at_done (BadLine line why) h = cc
+fine_at_done (TooLarge limit) h = cc
+
+all_at_done : (s : Setup) (schedule : List ℕ) → status_of_schedule s schedule ≡ status.Done → events_that_run s schedule ≡ all_events s schedule
+all_at_done s schedule h = fine_runs_every s.harts s.cores schedule (fine_at_done (schedule_verdict s.harts s.cores schedule) h)
+
+stop_at_done : (stop : Status) → (stop ≢ status.Done → status.Done ≡ stop) → stop ≡ status.Done
+stop_at_done status.Done same = refl
+stop_at_done stop same =
+    let other : stop ≢ status.Done = λ e. cc in
+    sym (same other)
+
+pub stands_at_end : (s : Setup) (schedule : List ℕ) (stop answer : Status) (chip : ChipView) → (stop ≢ status.Done → answer ≡ stop) → stop ≡ status_of_schedule s schedule
+    → Stands s chip (events_that_run s schedule) → Stands s chip (events_until answer s schedule)
+stands_at_end s schedule stop status.Done chip same verdict h = subst (Stands s chip) (all_at_done s schedule (sym verdict ∙ stop_at_done stop same)) h
+stands_at_end s schedule stop other chip same verdict h = h
+
+-- ---- texts and their fronts
 
 -- a whole text is a front of itself
 holds_whole : (s : HostState) (name text : List ℕ) → (IsTrue s.tells → s.file name ≡ Some text) → HoldsFront s name text
@@ -331,9 +356,9 @@ ends_done s files w a b c run answer apart h rest done =
       answered = reported_answer files a b c (report_of_run run) _ answer rest.later (λ tells. h.verdict tells) done.reported;
       caused = reported_caused files a b c (report_of_run run) answer rest.later done.reported;
       done = λ d. record {
-        order = λ tells. held.order (subst IsTrue (sym all.tells) tells);
-        report = λ tells. reported_file files b c (report_of_run run) answer d done.reported (subst IsTrue (sym all.tells) tells) ∙ ap Some (same tells);
-        output = output_at a c files.output _ all held.output;
+        order = λ tells. held.order (subst IsTrue (sym all.tells) tells) ∙ ap (λ e. Some (texts_of_events s e).order) (every tells);
+        report = λ tells. reported_file files b c (report_of_run run) answer d done.reported (subst IsTrue (sym all.tells) tells) ∙ ap Some (same tells) ∙ ap (λ e. Some (texts_of_events s e).report) (every tells);
+        output = λ tells. subst (λ e. IfSome files.output (λ name. c.file name ≡ Some (texts_of_events s e).output)) (every tells) (output_at a c files.output _ all held.output tells);
       };
       stopped = λ st. absurd (reported_no_stop files b c (report_of_run run) answer done.reported st);
       order = holds_whole c files.order _ held.order;
@@ -345,6 +370,9 @@ ends_done s files w a b c run answer apart h rest done =
       };
     }
   where
+    every : IsTrue a.tells → events_that_run s (a.role role.Schedule).left ≡ all_events s (a.role role.Schedule).left
+    every tells = all_at_done s (a.role role.Schedule).left (sym (h.verdict tells))
+
     same : IsTrue a.tells → report_of_run run ≡ report_of_events s (events_that_run s (a.role role.Schedule).left)
     same tells = report_of_ran s (events_that_run s (a.role role.Schedule).left) (text_names files) b run (h.ran tells)
 
@@ -371,9 +399,9 @@ ends_of_run s files a b c answer p q started kept h = record {
   answered = answered_at h.answered;
   caused = caused_after files a b c answer p h.caused;
   done = λ d. record {
-    order = λ tells. (h.done d).order (at_b tells) ∙ ap (λ t. Some (texts_of t).order) (same tells);
-    report = λ tells. (h.done d).report (at_b tells) ∙ ap (λ t. Some (texts_of t).report) (same tells);
-    output = λ tells. subst (λ t. IfSome files.output (λ name. c.file name ≡ Some (texts_of t).output)) (same tells) ((h.done d).output (at_b tells));
+    order = λ tells. (h.done d).order (at_b tells) ∙ ap (λ t. Some (whole_of t).order) (same tells);
+    report = λ tells. (h.done d).report (at_b tells) ∙ ap (λ t. Some (whole_of t).report) (same tells);
+    output = λ tells. subst (λ t. IfSome files.output (λ name. c.file name ≡ Some (whole_of t).output)) (same tells) ((h.done d).output (at_b tells));
   };
   stopped = λ st. record {
     order = λ tells. (h.stopped st).order (at_b tells) ∙ ap (λ t. Some (texts_of t).order) (same tells);
@@ -393,6 +421,9 @@ ends_of_run s files a b c answer p q started kept h = record {
   where
     texts_of : List ℕ → Texts
     texts_of t = texts_of_events s (events_that_run s t)
+
+    whole_of : List ℕ → Texts
+    whole_of t = texts_of_events s (all_events s t)
 
     at_b : IsTrue a.tells → IsTrue b.tells
     at_b tells = subst IsTrue (sym p.tells) tells
@@ -426,7 +457,7 @@ ends_of_start s files a b answer h fronts = record {
 pub stands_after_start : (s : Setup) (files : Files) (a b : HostState) (answer : Status) (chip : ChipView) → IsLater a b → IsStarted files a b
     → StandsAfter s b (b.role role.Schedule).left answer chip → StandsAfter s a (bytes_of a files.schedule) answer chip
 stands_after_start s files a b answer chip p started h = λ tells end.
-    subst (λ t. Stands s chip (events_that_run s t)) (ap (λ f. unwrap_or f []) (sym (started.schedule tells))) (h (subst IsTrue (sym p.tells) tells) end)
+    subst (λ t. Stands s chip (events_until answer s t)) (ap (λ f. unwrap_or f []) (sym (started.schedule tells))) (h (subst IsTrue (sym p.tells) tells) end)
 
 -- a file that was made and written whole
 pub front_of_whole : {a b c : HostState} (r : Role) (name text : List ℕ) → Creates b r name → WritesWhole b c r text → IsLater b c → HasFront a c r name text

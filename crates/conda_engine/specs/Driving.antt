@@ -1,5 +1,6 @@
 -- The steps of a run from where its schedule is opened.
 use Rattle.std.specs.Prelude.{◌≡◌, ◌≢◌, ℕ, List, [], IsTrue, Some, IfSome}
+use Rattle.conda_base.specs.declared.actor.Actor.{Actor}
 use Rattle.conda_host.specs.declared.outside.Role.TheVariants as role
 use Rattle.conda_host.specs.State.{HostState, IsLater}
 use Rattle.offload_calls.specs.State.{Setup}
@@ -18,7 +19,7 @@ use Rattle.conda_engine.specs.declared.status.Status.{Status}
 use Rattle.conda_engine.specs.declared.status.Status.TheVariants as status
 use Rattle.conda_engine.specs.Faults.{IsFault, IsCaused, IsAnswer}
 use Rattle.conda_engine.specs.Outcome.{IsDone, IsStop, HasStopped, HasFront}
-use Rattle.conda_engine.specs.Verdict.{Aim, status_of, status_of_schedule, events_that_run}
+use Rattle.conda_engine.specs.Verdict.{Aim, status_of, status_of_schedule, events_that_run, all_events}
 use Rattle.command_words.specs.Words.{Files}
 
 -- the files that take texts while the schedule is run
@@ -80,12 +81,17 @@ pub record EndsReport (files : Files) (old new : HostState) (text : List ℕ) (a
 pub record EndsRun (files : Files) (old new : HostState) (aim : Aim) (answer : Status) : Type 0 where
   pub answered : IsAnswer files old new aim.verdict answer
   pub caused : IsCaused files old new answer
-  pub done : answer ≡ status.Done → IsDone files old new aim.texts
+  pub done : answer ≡ status.Done → IsDone files old new aim.whole
   pub stopped : IsStop answer → HasStopped files old new aim.texts
   pub order : HoldsFront new files.order aim.texts.order
   pub output : IfSome files.output (λ name. HoldsFront new name aim.texts.output)
   pub report : HasFront old new role.Report files.report aim.texts.report
 
--- the chip stands for the events that ran, where the run came to an end
+-- the events of a run that came to this end: at Done all of the schedule's
+abbrev pub events_until : Status → Setup → List ℕ → List Actor
+events_until status.Done s schedule = all_events s schedule
+events_until other s schedule = events_that_run s schedule
+
+-- the chip stands for these events, where the run came to an end
 abbrev pub StandsAfter : Setup → HostState → List ℕ → Status → ChipView → Type 0
-StandsAfter s old schedule answer chip = IsTrue old.tells → IsRunEnd answer → Stands s chip (events_that_run s schedule)
+StandsAfter s old schedule answer chip = IsTrue old.tells → IsRunEnd answer → Stands s chip (events_until answer s schedule)

@@ -49,7 +49,7 @@ pub record KeepsOthers (files : Files) (old new : HostState) : Type 0 where
 pub record Ends (files : Files) (old new : HostState) (aim : Aim) (answer : Status) : Type 0 where
   pub answered : IsAnswer files old new aim.verdict answer
   pub caused : IsCaused files old new answer
-  pub done : answer ≡ status.Done → IsDone files old new aim.texts
+  pub done : answer ≡ status.Done → IsDone files old new aim.whole
   pub stopped : IsStop answer → HasStopped files old new aim.texts
   pub fronts : HasFronts files old new aim.texts
 

@@ -7,7 +7,7 @@ use Rattle.chip_config.specs.Settings.{configured}
 use Rattle.elf_loader.specs.declared.fault.ImageFault.{ImageFault}
 use Rattle.elf_loader.specs.Refusal.{refusal}
 use Rattle.elf_loader.specs.Image.{image_of}
-use Rattle.schedule_log.specs.Verdict.{Verdict, Fine, BadLine, TooLarge, schedule_verdict, good}
+use Rattle.schedule_log.specs.Verdict.{Verdict, Fine, BadLine, TooLarge, schedule_verdict, events, good}
 use Rattle.schedule_log.specs.Texts.{order_text}
 use Rattle.offload_calls.specs.State.{Setup}
 use Rattle.chip_core.specs.Reports.{report_of_events}
@@ -103,19 +103,29 @@ texts_of_events s events = record { order = order_text (journal s events); outpu
 abbrev pub events_that_run : Setup → List ℕ → List Actor
 events_that_run s schedule = good s.harts s.cores schedule
 
+-- all events of a schedule, each line's actor as often as its count says
+abbrev pub all_events : Setup → List ℕ → List Actor
+all_events s schedule = events s.harts s.cores schedule
+
 -- ---- both
 
--- what a run leads to: its status where nothing fails, and the texts of its files
+-- what a run leads to: its status where nothing fails, the texts of the events that run, and those of all events
 pub record Aim : Type 0 where
   pub verdict : Status
   pub texts : Texts
+  pub whole : Texts
+
+abbrev pub aim_with : Status → Setup → List ℕ → Aim
+aim_with verdict s schedule = record {
+  verdict = verdict;
+  texts = texts_of_events s (events_that_run s schedule);
+  whole = texts_of_events s (all_events s schedule);
+}
 
 -- what a schedule leads to on a chip
 abbrev pub aim_of_schedule : Setup → List ℕ → Aim
-aim_of_schedule s schedule = record { verdict = status_of_schedule s schedule; texts = texts_of_events s (events_that_run s schedule) }
+aim_of_schedule s schedule = aim_with (status_of_schedule s schedule) s schedule
 
 -- what the bytes of configuration, image and schedule lead to
 abbrev pub aim_of_bytes : List ℕ → List ℕ → List ℕ → Aim
-aim_of_bytes config image schedule =
-    let s = setup_of (numbers_of (configured config)) image in
-    record { verdict = status_of_bytes config image schedule; texts = texts_of_events s (events_that_run s schedule) }
+aim_of_bytes config image schedule = aim_with (status_of_bytes config image schedule) (setup_of (numbers_of (configured config)) image) schedule

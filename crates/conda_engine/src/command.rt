@@ -16,8 +16,9 @@ use std::alloc::Global;
 ///
 /// Where memory runs out the answer is `OutOfMemory`; no clause says when.
 pub fn conda<H: Host>(alloc: Global, words: &[String], host: &mut H) -> Status
-    // At Done order, report and output hold the texts of one flat memory that executes the written order.
-    ensures done { result ≡ Status.Done → IfSome (run_files (map string_bytes words.now)) (λ files. IsDone files (H.state host.old) (H.state host.new) (aim_of files (H.state host.old)).texts) }
+    // At Done order, report and output hold the texts of one flat memory that executes the written order, in which
+    // every event of the schedule has its entry.
+    ensures done { result ≡ Status.Done → IfSome (run_files (map string_bytes words.now)) (λ files. IsDone files (H.state host.old) (H.state host.new) (aim_of files (H.state host.old)).whole) }
 
     // The words alone decide whether it is Usage, and then nothing is touched.
     ensures usage { (result ≡ Status.Usage) ↔ (run_files (map string_bytes words.now) ≡ None) }

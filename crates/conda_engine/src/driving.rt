@@ -190,8 +190,9 @@ fn drive_run<H: Host>(files: &FileWords, task: &mut ScheduleRun, host: &mut H) -
 ///
 /// The chip comes back as it is then: after a fault of the host nothing is said of it.
 pub fn drive<H: Host>(p: Prepared, host: &mut H) -> (Status, Chip)
-    // At Done order, report and output hold the texts of one flat memory that executes the written order.
-    ensures done { result.0 ≡ Status.Done → (s : Setup) → Stands s p.chip [] → IsDone p.files (H.state host.old) (H.state host.new) (aim_of_schedule s (bytes_of (H.state host.old) p.files.schedule)).texts }
+    // At Done order, report and output hold the texts of one flat memory that executes the written order, in which
+    // every event of the schedule has its entry.
+    ensures done { result.0 ≡ Status.Done → (s : Setup) → Stands s p.chip [] → IsDone p.files (H.state host.old) (H.state host.new) (aim_of_schedule s (bytes_of (H.state host.old) p.files.schedule)).whole }
 
     // Any other answer is what the schedule leads to, or a fault whose count rose.
     ensures answer { (s : Setup) → Stands s p.chip [] → IsAnswer p.files (H.state host.old) (H.state host.new) (status_of_schedule s (bytes_of (H.state host.old) p.files.schedule)) result.0 }

@@ -1,6 +1,7 @@
 use Rattle.std.specs.Prelude.{is_some}
+use Rattle.conda_host.specs.declared.outside.Role.TheVariants as role
 use Rattle.conda_engine.specs.Preparing.{worded}
-use Rattle.conda_engine.proofs.DriveFacts.{ends_of_finish, ends_of_fault}
+use Rattle.conda_engine.proofs.DriveFacts.{ends_of_finish, ends_of_fault, stands_at_end}
 use Rattle.conda_engine.proofs.driving.run_files.Goals as goal
 
 pub returns-in-Ok-clause-ends : goal.returns-in-Ok-clause-ends
@@ -15,4 +16,6 @@ returns-in-Err-clause-ends g c = λ s stands.
     (c.in-Err.ensures.fronts s stands)
 
 pub returns-in-Ok-clause-chip : goal.returns-in-Ok-clause-chip
-returns-in-Ok-clause-chip g c = λ s stands tells end. ((c.in-Ok.ensures.ok s stands).ran tells).stands
+returns-in-Ok-clause-chip g c = λ s stands tells end.
+    stands_at_end s ((g.H.Host.state c.args.host.now).role role.Schedule).left c.in-Ok.stop c.finish.result c.run_texts.new.task.run.chip
+    c.finish.ensures.stopped ((c.in-Ok.ensures.ok s stands).verdict tells) ((c.in-Ok.ensures.ok s stands).ran tells).stands
