@@ -15,11 +15,6 @@ use Rattle.offload_calls.specs.Effects.{span_of_access, stores_of_access, loaded
 use Rattle.offload_calls.specs.HartAct.{hart_runs, call_effect, plan_effect, waits_next}
 use Rattle.chip_core.specs.Acts.{Parts, event_outcome, after_call}
 
--- a hart that has ended
-pub ended_outcome : (code : CodeView) (h : ℕ) (p : Parts) → hart_runs p.hart.status ≡ false
-    → event_outcome code h p ≡ record { entry = Entry_is.Idle (Actor_is.Hart h); parts = p; puts = [] }
-ended_outcome code h p ended = rw ended refl
-
 pub trap_outcome : (code : CodeView) (h : ℕ) (p : Parts) (trap : Trap) → hart_runs p.hart.status ≡ true → plan_of code p.hart.regs ≡ Err trap
     → event_outcome code h p
     ≡ record { entry = Entry_is.Step h; parts = record p { hart = record { regs = p.hart.regs; status = Hart_is.Trapped trap } }; puts = [] }

@@ -16,15 +16,6 @@ made_trans p q = record { created = λ h. q.created (p.created h); name = q.name
 made_same : {a b : RoleState} → b ≡ a → StaysMade a b
 made_same {a = a} {b = b} e = record { created = λ h. subst (λ r. IsTrue r.created) (sym e) h; name = ap (λ r. r.name) e }
 
-pub writes_refl : (w : Bool) (a : HostState) → WritesTexts w a a
-writes_refl w a = record {
-  later = later_refl a;
-  files = λ n d e. refl;
-  roles = λ r d e. refl;
-  order = made_refl (a.role Order);
-  output = made_refl (a.role Output);
-}
-
 pub writes_trans : {w : Bool} {a b c : HostState} → WritesTexts w a b → WritesTexts w b c → WritesTexts w a c
 writes_trans p q = record {
   later = later_trans p.later q.later;
@@ -73,23 +64,3 @@ output_other e = cc
 
 pub schedule_stays : {w : Bool} {a b : HostState} → WritesTexts w a b → b.role Schedule ≡ a.role Schedule
 schedule_stays p = p.roles Schedule order_other (λ t. output_other)
-
-pub runs_of_writes : {w : Bool} {a b : HostState} → WritesTexts w a b → RunsOver w a b
-runs_of_writes p = record {
-  later = p.later;
-  files = p.files;
-  roles = λ r s d e. p.roles r d e;
-  order = p.order;
-  output = p.output;
-  opened = λ h. subst (λ r. IsTrue r.opened) (sym (schedule_stays p)) h;
-}
-
-pub runs_of_reading : (w : Bool) {a b : HostState} → IsReading a b Schedule → (IsTrue (a.role Schedule).opened → IsTrue (b.role Schedule).opened) → RunsOver w a b
-runs_of_reading w p still = record {
-  later = p.later;
-  files = λ n d e. p.files n;
-  roles = λ r s d e. p.roles r s;
-  order = made_same (p.roles Order (λ e. order_other (sym e)));
-  output = made_same (p.roles Output (λ e. output_other (sym e)));
-  opened = still;
-}

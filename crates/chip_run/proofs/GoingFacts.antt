@@ -155,16 +155,6 @@ line_bad s names bytes h run line why ahead is before =
       verdict_is = sym g.verdict_is;
     }
 
--- nothing is ahead within the limits
-pub going_ended : (s : Setup) (names : Names) (bytes : List ℕ) (h : HostState) (run : Run) (ahead : List Finding) → ahead ≡ [] → is_too_long bytes ≡ false
-    → IsGoing s names bytes h run ahead → IsEnded s names bytes h run Ending_is.Whole
-going_ended s names bytes h run ahead is short before =
-    let g : IsGoing s names bytes h run [] = subst (IsGoing s names bytes h run) is before in
-    record {
-      run_is = subst (IsRun s names h run) (sym (g.events_are ∙ append-nil g.events)) g.run_is;
-      verdict_is = sym (g.verdict_is ∙ cond-false (is_too_long bytes) (TooLarge _) _ short);
-    }
-
 pub going_too_long : (s : Setup) (names : Names) (bytes : List ℕ) (h : HostState) (run : Run) (ahead : List Finding) → ahead ≡ [] → is_too_long bytes ≡ true
     → IsGoing s names bytes h run ahead → IsEnded s names bytes h run Ending_is.TooManyBytes
 going_too_long s names bytes h run ahead is long before =

@@ -75,9 +75,6 @@ no_other_front r name text p other = record {
 pub front_after_reading : {a b c : HostState} {read : Role} (r : Role) (name text : List ℕ) → IsReading a b read → r ≢ read → HasFront b c r name text → HasFront a c r name text
 front_after_reading r name text p other h = record { front = λ none is. h.front (ap (λ x. x.created) (p.roles r other) ∙ none) is }
 
-pub front_after_keeping : {a b c : HostState} (r : Role) (name text : List ℕ) → KeepsRole a b r → HasFront b c r name text → HasFront a c r name text
-front_after_keeping r name text p h = record { front = λ none is. h.front (ap (λ x. x.created) (p.same none) ∙ none) is }
-
 -- order's file was made, and then the output's, if it is named
 pub order_after_output : (a b : HostState) (order : List ℕ) (output : Option (List ℕ)) → Creates a role.Order order
     → MatchOption output (b ≡ a) (λ name. IsCreating a b role.Output name) → IfSome output (λ name. order ≢ name) → HasText b role.Order order []
@@ -90,10 +87,6 @@ order_after_output a b order (Some name) made p apart =
       written = λ tells. ap (λ x. x.written) kept ∙ made.written (subst IsTrue p.later.tells tells);
       file = λ tells. p.files order apart ∙ made.file (subst IsTrue p.later.tells tells);
     }
-
-pub output_of_created : (b : HostState) (output : Option (List ℕ)) → IfSome output (λ name. Creates b role.Output name) → HasOutput b output []
-output_of_created b None made = tt
-output_of_created b (Some name) made = record { created = made.created; named = made.name; written = made.written; file = made.file }
 
 -- ---- results
 
@@ -183,12 +176,6 @@ ready s files h run unused stands order output = record {
 output_made : (h : HostState) (output : Option (List ℕ)) → HasOutput h output [] → IsTrue (is_some output) → IsTrue (IsCreated h role.Output)
 output_made h None text is = absurd (cc)
 output_made h (Some name) text is = text.created
-
-pub both_created : (files : Files) (h : HostState) (run : Run) → IsUnused files run → HasText h role.Order files.order [] → HasOutput h files.output [] → AreCreated (is_some run.output) h
-both_created files h run unused order output = record {
-  order = order.created;
-  output = λ is. output_made h files.output output (subst IsTrue unused.unused.there is);
-}
 
 -- ---- order and output, and their fronts
 

@@ -15,19 +15,6 @@ pieces_join_all start middle last piece next given later first second = feeds_jo
 pub whole_is_found : WholeIsFound
 whole_is_found harts cores text given last f more = ap (finds more (at_start harts cores)) (sym (append-nil text)) ∙ f.whole more []
 
--- where a reader starts
-pub finds_at_start : (more : Bool) (harts cores : ℕ) (text : List ℕ) → finds more (at_start harts cores) text ≡ found_from harts cores 1 (judged_lines more text)
-unfolding finds
-finds_at_start more harts cores text = refl
-
-pub verdict_at_start : (harts cores : ℕ) (bytes : List ℕ) → schedule_verdict harts cores bytes ≡ verdict_after 0 (verdict_at_end bytes) (finds (is_too_long bytes) (at_start harts cores) (take most_bytes bytes))
-unfolding schedule_verdict finds
-verdict_at_start harts cores bytes = refl
-
-pub good_at_start : (harts cores : ℕ) (bytes : List ℕ) → good harts cores bytes ≡ good_after 0 (finds (is_too_long bytes) (at_start harts cores) (take most_bytes bytes))
-unfolding good finds
-good_at_start harts cores bytes = refl
-
 -- lines that are fine run whole
 fine_run : (found : List Finding) (run : ℕ) → verdict_after run Fine found ≡ Fine → good_after run found ≡ events_of found
 fine_run [] run fine = refl

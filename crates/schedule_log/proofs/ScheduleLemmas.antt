@@ -18,32 +18,9 @@ pub number_after_above : (digits : List ℕ) (n : ℕ) → n ≤ number_after n 
 number_after_above [] n = omega arith
 number_after_above (digit ∷ digits) n = omega (arith, number_after_above digits (n * 10 + (digit - 48)))
 
--- the first byte of some text
-pub begins_at : (text : List ℕ) → 0 < length text → begins_above_zero text ≡ not (get_or text 0 0 == 48)
-begins_at [] h = absurd (omega arith)
-begins_at (byte ∷ text) h = refl
-
-pub begins_nowhere : (text : List ℕ) → length text ≡ 0 → begins_above_zero text ≡ false
-begins_nowhere [] h = refl
-begins_nowhere (byte ∷ text) h = absurd (omega arith)
-
 -- one digit more
 pub number_next : (digits : List ℕ) (i n : ℕ) → i < length digits → number_after n (drop i digits) ≡ number_after (n * 10 + (get_or digits i 0 - 48)) (drop (i + 1) digits)
 number_next digits i n h = rw (add-one) (rw (drop-cons digits i 0) refl)
-
-pub all_next : (digits : List ℕ) (i : ℕ) → i < length digits → list_all is_digit (drop i digits) ≡ (is_digit (get_or digits i 0) && list_all is_digit (drop (i + 1) digits))
-all_next digits i h = rw (add-one) (rw (drop-cons digits i 0) refl)
-
--- the three causes of a bad count
-pub count_of_bad_front : (digits : List ℕ) → begins_above_zero digits ≡ false → count_of digits ≡ None
-count_of_bad_front digits front = rw front refl
-
-pub count_of_bad_digit : (digits : List ℕ) → list_all is_digit digits ≡ false → count_of digits ≡ None
-count_of_bad_digit digits some = go (begins_above_zero digits) refl
-  where
-    go : (front : Bool) → begins_above_zero digits ≡ front → count_of digits ≡ None
-    go true is = rw is (rw some refl)
-    go false is = rw is refl
 
 pub count_of_too_many : (digits : List ℕ) → 67108864 < number_after 0 digits → count_of digits ≡ None
 count_of_too_many digits high = go (begins_above_zero digits && list_all is_digit digits) refl

@@ -24,9 +24,6 @@ pub record Walks (start : Progress) (part : List ℕ) (now : Progress) : Type 0 
   pub cores : now.cores ≡ start.cores
   pub begun : IsBegun now.begun
 
-pub walks_start : (s : Progress) → s.bad ≡ None → IsBegun s.begun → Walks s [] s
-walks_start s good begun = record { feeds = feeds_nothing s; good = good; ended = omega arith; harts = refl; cores = refl; begun = begun }
-
 pub feeds_in_more : (part : List ℕ) (byte : ℕ) → feeds_in (part ++ byte ∷ []) ≡ feeds_in part + feeds_in (byte ∷ [])
 feeds_in_more [] byte = omega arith
 feeds_in_more (first ∷ part) byte = omega (arith, feeds_in_more part byte)
