@@ -5,7 +5,6 @@ use Rattle.rv32_hart.specs.declared.regs.Trap.{Trap}
 use Rattle.rv32_hart.specs.declared.act.Planned.{Planned}
 use Rattle.rv32_hart.specs.Act.{plan_of, after, is_call_access}
 use Rattle.rv32_hart.specs.Code.{CodeView}
-use Rattle.conda_base.specs.declared.actor.Actor.TheVariants as Actor_is
 use Rattle.schedule_log.specs.declared.entry.Entry.TheVariants as Entry_is
 use Rattle.offload_calls.specs.declared.status.HartStatus.{HartStatus}
 use Rattle.offload_calls.specs.declared.status.HartStatus.TheVariants as Hart_is

@@ -1,7 +1,7 @@
 -- What calls leave as it was, one after another.
 use Rattle.std.proofs.Common.{◌≡◌, ◌≢◌, Bool, IsTrue, refl, sym, ap, ◌∙◌, subst}
 use Rattle.conda_host.specs.declared.outside.Role.TheVariants.{Schedule, Order, Output}
-use Rattle.conda_host.specs.State.{HostState, RoleState, IsLater, IsReading}
+use Rattle.conda_host.specs.State.{HostState, RoleState, IsLater}
 use Rattle.conda_host.proofs.Steps.{later_refl, later_trans, rose_for_all_after}
 use Rattle.chip_run.specs.declared.ending.RunFault.{RunFault}
 use Rattle.chip_run.specs.declared.ending.RunFault.TheVariants.{Read, WriteOrder, WriteOutput}

@@ -18,7 +18,7 @@ use Rattle.chip_core.specs.Runs.{flat}
 use Rattle.chip_core.specs.Stands.{Stands}
 use Rattle.chip_core.proofs.ReportFacts.{report_of_shown}
 use Rattle.chip_run.specs.declared.run.Run.{Run}
-use Rattle.chip_run.specs.Frames.{AreCreated, RunsOver}
+use Rattle.chip_run.specs.Frames.{RunsOver}
 use Rattle.chip_run.specs.Ready.{IsReady, HasRun}
 use Rattle.chip_run.specs.Running.{HoldFrontsOf}
 use Rattle.chip_run.specs.Texts.{Names, HasText, HasOutput, HoldsFront, HoldsOutputFront}

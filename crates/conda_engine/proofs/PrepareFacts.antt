@@ -1,17 +1,13 @@
 -- What reading configuration and image comes to.
-use Rattle.std.proofs.Common.{◌≡◌, ◌<◌, ◌≤◌, ℕ, List, [], length, IsTrue, true, false, refl, sym, ◌∙◌, ap, subst, inl, inr, arith}
-use Rattle.std.specs.Prelude.{None, nat_lt, unwrap_or}
+use Rattle.std.proofs.Common.{◌≡◌, ◌<◌, ◌≤◌, ℕ, List, length, IsTrue, true, false, refl, ◌∙◌, ap, arith}
+use Rattle.std.specs.Prelude.{None, nat_lt}
 use Rattle.std.proofs.lemmas.Bool.Decides.{nat_tests}
 use Rattle.conda_host.specs.declared.outside.Role.TheVariants as role
-use Rattle.conda_host.specs.State.{HostState, IsReading, Rose}
-use Rattle.conda_host.proofs.Steps.{rose_after, later_trans}
-use Rattle.chip_core.specs.ChipView.{ChipView}
-use Rattle.chip_config.specs.Settings.{configured}
-use Rattle.command_words.specs.Words.{Files}
-use Rattle.conda_engine.specs.declared.status.Status.{Status}
+use Rattle.conda_host.specs.State.{HostState, IsReading}
+use Rattle.conda_host.proofs.Steps.{later_trans}
 use Rattle.conda_engine.specs.declared.status.Status.TheVariants as status
 use Rattle.conda_engine.specs.Faults.{bytes_of}
-use Rattle.conda_engine.specs.Preparing.{HoldsFile, IsBytesError, IsConfigured, IsConfigError, IsImageError, IsLoaded, IsLoadError, IsUnready, OnlyReads}
+use Rattle.conda_engine.specs.Preparing.{IsConfigured, OnlyReads}
 use Rattle.conda_engine.specs.Verdict.{config_limit, image_limit, refusal_of, setup_of, status_of_bytes, status_of_image, status_of_schedule, after_config, after_image}
 
 below : (limit n : ℕ) → n ≤ limit → nat_lt limit n ≡ false

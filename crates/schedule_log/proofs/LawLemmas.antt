@@ -5,7 +5,7 @@ use Rattle.std.proofs.lemmas.Bool.Decides.{nat_tests}
 use Rattle.std.proofs.lemmas.List.{take_all}
 use Rattle.schedule_log.specs.Schedule.{judged_lines}
 use Rattle.schedule_log.specs.Findings.{Finding, Asks, Fails, at_start, finds, findings, found_from}
-use Rattle.schedule_log.specs.Verdict.{Fine, BadLine, TooLarge, events_of, good_after, is_too_long, judged_findings, most_bytes, most_events, verdict_after, schedule_verdict, good, events, verdict_at_end}
+use Rattle.schedule_log.specs.Verdict.{Fine, BadLine, TooLarge, events_of, good_after, is_too_long, judged_findings, most_bytes, most_events, verdict_after, schedule_verdict, good, events}
 use Rattle.schedule_log.specs.Laws.{PiecesJoin, WholeIsFound, FineRunsAll}
 use Rattle.schedule_log.proofs.FeedLemmas.{feeds_join}
 

@@ -13,7 +13,7 @@ use Rattle.schedule_log.specs.Grammar.{reading}
 use Rattle.schedule_log.specs.Findings.{Finding, Asks, Fails, Progress, shown, answer_at, Feeds, IsBegun, feeds_in, finds}
 use Rattle.schedule_log.specs.Steps.{after_line, after_byte, said_at}
 use Rattle.schedule_log.specs.declared.fed.Fed.TheVariants as Fed_is
-use Rattle.schedule_log.proofs.FeedLemmas.{any_more, judged_part, feeds_join, feeds_byte, feeds_nothing}
+use Rattle.schedule_log.proofs.FeedLemmas.{any_more, judged_part, feeds_join, feeds_byte}
 
 -- a reader that has taken a part of a piece, and met no event and no bad line in it
 pub record Walks (start : Progress) (part : List ℕ) (now : Progress) : Type 0 where
