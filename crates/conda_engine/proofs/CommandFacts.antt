@@ -5,15 +5,14 @@ use Rattle.conda_host.specs.declared.outside.Role.{Role}
 use Rattle.conda_host.specs.declared.outside.Role.TheVariants as role
 use Rattle.conda_host.specs.State.{HostState, IsLater}
 use Rattle.chip_config.specs.Settings.{configured, settings}
-use Rattle.chip_core.specs.Stands.{Stands}
-use Rattle.offload_calls.specs.State.{Setup}
+use Rattle.chip_core.specs.Stands.{setup_for}
 use Rattle.command_words.specs.Words.{Files}
 use Rattle.conda_engine.specs.declared.status.Status.{Status}
 use Rattle.conda_engine.specs.declared.status.Status.TheVariants as status
 use Rattle.conda_engine.specs.Command.{IsCommandAnswer, IsCommandComplete, aim_of}
 use Rattle.conda_engine.specs.Faults.{bytes_of, IsAnswer, IsCaused}
 use Rattle.conda_engine.specs.Outcome.{Ends, IsDone, IsStop, HasStopped, HasFront, HasFronts, KeepsOthers}
-use Rattle.conda_engine.specs.Preparing.{IsReadyFor, IsUnready, OnlyReads, PreparedView}
+use Rattle.conda_engine.specs.Preparing.{IsReadyFor, IsUnready, OnlyReads, PreparedView, aim_in, setup_in}
 use Rattle.conda_engine.specs.Verdict.{Aim, aim_of_schedule, aim_with, numbers_of, setup_of, status_of_bytes, status_of_image, status_of_schedule}
 use Rattle.conda_engine.proofs.DriveFacts.{fault_after, caused_after, complete_of_answer}
 use Rattle.conda_engine.proofs.PrepareFacts.{verdict_of_image, verdict_of_schedule}
@@ -85,16 +84,16 @@ aim_same files a b p h r tells =
 
 -- a run that was made ready and driven
 pub ends_of_command : (files : Files) (a b c : HostState) (p : PreparedView) (answer : Status) → IsReadyFor files a p → OnlyReads a b → IsLater b c
-    → ((s : Setup) → Stands s p.chip [] → Ends p.files b c (aim_of_schedule s (bytes_of b p.files.schedule)) answer) → Ends files a c (aim_of files a) answer
+    → Ends p.files b c (aim_in p b) answer → Ends files a c (aim_of files a) answer
 ends_of_command files a b c p answer h r q ends =
-    let s : Setup = setup_of (settings p.config) h.image.bytes in
-    ends_after files a b c (aim_of_schedule s (bytes_of b files.schedule)) (aim_of files a) answer r q (aim_same files a b p h r)
-    (subst (λ f. Ends f b c (aim_of_schedule s (bytes_of b f.schedule)) answer) h.named (ends s h.image.stands))
+    ends_after files a b c (aim_of_schedule (setup_in p) (bytes_of b files.schedule)) (aim_of files a) answer r q
+    (λ tells. ap (λ image. aim_of_schedule (setup_for p.config image) (bytes_of b files.schedule)) h.image.loaded ∙ aim_same files a b p h r tells)
+    (subst (λ f. Ends f b c (aim_of_schedule (setup_in p) (bytes_of b f.schedule)) answer) h.named ends)
 
 -- ---- over the words, which name files or don't
 
 pub ends_for : (o : Option Files) (a b c : HostState) (p : PreparedView) (answer : Status) → IfSome o (λ files. IsReadyFor files a p) → OnlyReads a b → IsLater b c
-    → ((s : Setup) → Stands s p.chip [] → Ends p.files b c (aim_of_schedule s (bytes_of b p.files.schedule)) answer) → IfSome o (λ files. Ends files a c (aim_of files a) answer)
+    → Ends p.files b c (aim_in p b) answer → IfSome o (λ files. Ends files a c (aim_of files a) answer)
 ends_for None a b c p answer h r q ends = tt
 ends_for (Some files) a b c p answer h r q ends = ends_of_command files a b c p answer h r q ends
 

@@ -458,18 +458,14 @@ front_of_whole {b = b} {c = c} r name text made wrote p = record { front = λ no
 
 -- ---- by the names that a prepared run holds
 
-pub ends_of_parts : (s : Setup) (files held : Files) (a c : HostState) (chip at_start : ChipView) (answer : Status) → held ≡ files → at_start ≡ chip
-    → ((s : Setup) → Stands s at_start [] → Ends held a c (aim_of_schedule s (bytes_of a held.schedule)) answer) → Stands s chip []
+pub ends_of_parts : (s : Setup) (files held : Files) (a c : HostState) (answer : Status) → held ≡ files → Ends held a c (aim_of_schedule s (bytes_of a held.schedule)) answer
     → Ends files a c (aim_of_schedule s (bytes_of a files.schedule)) answer
-ends_of_parts s files held a c chip at_start answer same_files same_chip ends stands =
-    subst (λ f. Ends f a c (aim_of_schedule s (bytes_of a f.schedule)) answer) same_files (ends s (subst (λ k. Stands s k []) (sym same_chip) stands))
+ends_of_parts s files held a c answer same ends = subst (λ f. Ends f a c (aim_of_schedule s (bytes_of a f.schedule)) answer) same ends
 
-pub stands_of_parts : (s : Setup) (files held : Files) (a : HostState) (chip at_start left out : ChipView) (answer : Status) → held ≡ files → at_start ≡ chip → out ≡ left
-    → ((s : Setup) → Stands s at_start [] → StandsAfter s a (bytes_of a held.schedule) answer left) → Stands s chip []
-    → StandsAfter s a (bytes_of a files.schedule) answer out
-stands_of_parts s files held a chip at_start left out answer same_files same_chip same_out after stands =
-    subst (λ k. StandsAfter s a (bytes_of a files.schedule) answer k) (sym same_out)
-    (subst (λ f. StandsAfter s a (bytes_of a f.schedule) answer left) same_files (after s (subst (λ k. Stands s k []) (sym same_chip) stands)))
+pub stands_of_parts : (s : Setup) (files held : Files) (a : HostState) (left out : ChipView) (answer : Status) → held ≡ files → out ≡ left
+    → StandsAfter s a (bytes_of a held.schedule) answer left → StandsAfter s a (bytes_of a files.schedule) answer out
+stands_of_parts s files held a left out answer same_files same_out after =
+    subst (λ k. StandsAfter s a (bytes_of a files.schedule) answer k) (sym same_out) (subst (λ f. StandsAfter s a (bytes_of a f.schedule) answer left) same_files after)
 
 pub no_rise : (files : Files) (a c : HostState) (answer : Status) → IsFault files a c answer → ((r : Role) (name : List ℕ) → Rose a c r name → ⊥) → ⊥
 no_rise files a c (status.ReadFault role.Config) h none = none _ _ h

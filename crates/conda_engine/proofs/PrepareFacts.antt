@@ -1,22 +1,16 @@
 -- What reading configuration and image comes to.
-use Rattle.std.proofs.Common.{◌≡◌, ◌<◌, ◌≤◌, ℕ, List, length, IsTrue, true, false, refl, ◌∙◌, ap, arith}
+use Rattle.std.proofs.Common.{◌≡◌, ◌≤◌, ℕ, List, length, IsTrue, false, ◌∙◌, ap, arith}
 use Rattle.std.specs.Prelude.{None, nat_lt}
 use Rattle.std.proofs.lemmas.Bool.Decides.{nat_tests}
 use Rattle.conda_host.specs.declared.outside.Role.TheVariants as role
 use Rattle.conda_host.specs.State.{HostState, IsReading}
 use Rattle.conda_host.proofs.Steps.{later_trans}
-use Rattle.conda_engine.specs.declared.status.Status.TheVariants as status
 use Rattle.conda_engine.specs.Faults.{bytes_of}
 use Rattle.conda_engine.specs.Preparing.{IsConfigured, OnlyReads}
 use Rattle.conda_engine.specs.Verdict.{config_limit, image_limit, refusal_of, setup_of, status_of_bytes, status_of_image, status_of_schedule, after_config, after_image}
 
 below : (limit n : ℕ) → n ≤ limit → nat_lt limit n ≡ false
 below limit n within = grind (arith, nat_tests)
-
-above : (limit n : ℕ) → limit < n → nat_lt limit n ≡ true
-above limit n over = grind (arith, nat_tests)
-
--- ---- the bytes of a file that was read
 
 -- ---- the verdict, step by step
 
@@ -32,13 +26,6 @@ pub verdict_of_schedule : (numbers image schedule : List ℕ) → length image �
     → status_of_image numbers image schedule ≡ status_of_schedule (setup_of numbers image) schedule
 verdict_of_schedule numbers image schedule within accepted =
     rw (below image_limit (length image) within) (ap (λ r. after_image r (status_of_schedule (setup_of numbers image) schedule)) accepted)
-
--- a file that isn't read
-config_too_large : (config image schedule : List ℕ) → config_limit < length config → status.TooLarge role.Config config_limit ≡ status_of_bytes config image schedule
-config_too_large config image schedule over = rw (above config_limit (length config) over) refl
-
-image_too_large : (numbers image schedule : List ℕ) → image_limit < length image → status.TooLarge role.Image image_limit ≡ status_of_image numbers image schedule
-image_too_large numbers image schedule over = rw (above image_limit (length image) over) refl
 
 -- configuration and image were read
 pub reads_both : {a b c : HostState} → IsReading a b role.Config → IsReading b c role.Image → OnlyReads a c

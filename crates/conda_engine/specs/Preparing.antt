@@ -1,19 +1,20 @@
 -- The steps of a run before any file is created.
-use Rattle.std.specs.Prelude.{◌≡◌, ◌≢◌, ◌⊎◌, ℕ, ◌<◌, ◌≤◌, List, [], length, IsTrue, Some, None, Ok, Err, is_some, option_map, string_bytes}
+use Rattle.std.specs.Prelude.{◌≡◌, ◌≢◌, ◌⊎◌, ℕ, ◌<◌, ◌≤◌, List, length, IsTrue, Some, None, Ok, Err, is_some, option_map, string_bytes}
 use Rattle.conda_host.specs.declared.outside.Role.{Role}
 use Rattle.conda_host.specs.declared.outside.Role.TheVariants as role
 use Rattle.conda_host.specs.State.{HostState, IsLater, Rose}
 use Rattle.chip_config.specs.declared.config.Config.{Config}
 use Rattle.chip_config.specs.Settings.{configured, settings}
-use Rattle.chip_core.specs.ChipView.{ChipView}
-use Rattle.chip_core.specs.Stands.{Stands}
+use Rattle.elf_loader.specs.Image.{ImageView, image_of}
+use Rattle.offload_calls.specs.State.{Setup}
+use Rattle.chip_core.specs.Stands.{setup_for}
 use Rattle.chip_run.specs.declared.run.Run.{Run}
 use Rattle.chip_run.specs.Running.{IsNew}
 use Rattle.conda_engine.specs.declared.files.FileWords.{FileWords}
 use Rattle.conda_engine.specs.declared.status.Status.{Status}
 use Rattle.conda_engine.specs.declared.status.Status.TheVariants as status
 use Rattle.conda_engine.specs.Faults.{bytes_of, IsAnswer, IsCaused}
-use Rattle.conda_engine.specs.Verdict.{config_limit, image_limit, refusal_of, setup_of, status_of_bytes}
+use Rattle.conda_engine.specs.Verdict.{Aim, aim_of_schedule, base_of, config_limit, image_limit, memory_of, refusal_of, status_of_bytes}
 use Rattle.command_words.specs.Words.{Files, AreApart}
 
 -- the names that file words hold
@@ -27,11 +28,19 @@ worded w = record {
   output = option_map string_bytes w.output;
 }
 
--- what clauses see of a run that is ready: its configuration, its files, and its chip
+-- what clauses see of a run that is ready: its configuration, its image as loaded, and its files
 pub record PreparedView : Type 0 where
   pub config : Config
+  pub image : ImageView
   pub files : Files
-  pub chip : ChipView
+
+-- the chip of a run that is ready
+abbrev pub setup_in : PreparedView → Setup
+setup_in p = setup_for p.config p.image
+
+-- what its schedule leads to
+abbrev pub aim_in : PreparedView → HostState → Aim
+aim_in p old = aim_of_schedule (setup_in p) (bytes_of old p.files.schedule)
 
 -- nothing was run, and the files to be written are different
 pub record IsUnused (files : Files) (run : Run) : Type 0 where
@@ -67,20 +76,21 @@ abbrev pub IsConfigError : HostState → HostState → List ℕ → Status → T
 IsConfigError old new name (status.Config fault) = IsTrue old.tells → (length (bytes_of old name) ≤ config_limit) × (configured (bytes_of old name) ≡ Err fault)
 IsConfigError old new name other = IsFileError old new role.Config name config_limit other
 
--- a chip of these numbers is at the start of a file's image
-pub record IsLoaded (numbers : List ℕ) (old : HostState) (name : List ℕ) (chip : ChipView) : Type 0 where
+-- an image is that of a file, in a memory of these numbers
+pub record IsLoaded (numbers : List ℕ) (old : HostState) (name : List ℕ) (image : ImageView) : Type 0 where
   pub bytes : List ℕ
   pub held : HoldsFile old name image_limit bytes
   pub accepted : refusal_of numbers bytes ≡ None
-  pub stands : Stands (setup_of numbers bytes) chip []
+  pub loaded : image ≡ image_of bytes (base_of numbers) (memory_of numbers)
+  pub size : length image.code.bytes ≡ memory_of numbers
 
--- why bytes give no chip
+-- why bytes give no image
 abbrev pub IsImageError : List ℕ → List ℕ → Status → Type 0
 IsImageError numbers bytes (status.Image fault) = refusal_of numbers bytes ≡ Some fault
 IsImageError numbers bytes status.OutOfMemory = Unit {0}
 IsImageError numbers bytes other = ⊥
 
--- why a file gives no chip
+-- why a file gives no image
 abbrev pub IsLoadError : List ℕ → HostState → HostState → List ℕ → Status → Type 0
 IsLoadError numbers old new name (status.Image fault) = IsTrue old.tells → (length (bytes_of old name) ≤ image_limit) × (refusal_of numbers (bytes_of old name) ≡ Some fault)
 IsLoadError numbers old new name other = IsFileError old new role.Image name image_limit other
@@ -91,11 +101,11 @@ pub record OnlyReads (old new : HostState) : Type 0 where
   pub files : (n : List ℕ) → new.file n ≡ old.file n
   pub roles : (r : Role) → r ≢ role.Config → r ≢ role.Image → new.role r ≡ old.role r
 
--- a run of these files is ready: its chip is at the start of what configuration and image say
+-- a run of these files is ready: its configuration and its image are what their files say
 pub record IsReadyFor (files : Files) (old : HostState) (p : PreparedView) : Type 0 where
   pub named : p.files ≡ files
   pub config : IsConfigured old files.config (settings p.config)
-  pub image : IsLoaded (settings p.config) old files.image p.chip
+  pub image : IsLoaded (settings p.config) old files.image p.image
 
 -- an answer of these steps: it says that memory ran out, that a file wasn't read, or that it is refused
 abbrev pub IsEarly : Status → Type 0

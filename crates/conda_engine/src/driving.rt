@@ -10,7 +10,7 @@ ghost use Rattle.chip_run.specs.Texts.{HasText, HasOutput};
 ghost use Rattle.conda_engine.specs.Driving.{text_names, EndsRun, IsStarted, IsRunEnd, IsLate, HasRunSchedule, IsReported, EndsReport, StandsAfter, status_of_ending, status_of_fault, report_of_run};
 ghost use Rattle.conda_engine.specs.Faults.{IsFault, IsAnswer, IsCaused, bytes_of};
 ghost use Rattle.conda_engine.specs.Outcome.{Ends, IsDone, IsStop, HasStopped, IsComplete, HasFront, HasFronts, KeepsRole, KeepsOthers};
-ghost use Rattle.conda_engine.specs.Preparing.{IsUnused, worded};
+ghost use Rattle.conda_engine.specs.Preparing.{IsUnused, aim_in, setup_in, worded};
 ghost use Rattle.conda_engine.specs.Verdict.{Texts, Aim, aim_of_schedule, texts_of_events, events_that_run, status_of_schedule};
 ghost use Rattle.command_words.specs.Words.{AreApart};
 
@@ -192,20 +192,20 @@ fn drive_run<H: Host>(files: &FileWords, task: &mut ScheduleRun, host: &mut H) -
 pub fn drive<H: Host>(p: Prepared, host: &mut H) -> (Status, Chip)
     // At Done order, report and output hold the texts of one flat memory that executes the written order, in which
     // every event of the schedule has its entry.
-    ensures done { result.0 ≡ Status.Done → (s : Setup) → Stands s p.chip [] → IsDone p.files (H.state host.old) (H.state host.new) (aim_of_schedule s (bytes_of (H.state host.old) p.files.schedule)).whole }
+    ensures done { result.0 ≡ Status.Done → IsDone p.files (H.state host.old) (H.state host.new) (aim_in p (H.state host.old)).whole }
 
     // Any other answer is what the schedule leads to, or a fault whose count rose.
-    ensures answer { (s : Setup) → Stands s p.chip [] → IsAnswer p.files (H.state host.old) (H.state host.new) (status_of_schedule s (bytes_of (H.state host.old) p.files.schedule)) result.0 }
+    ensures answer { IsAnswer p.files (H.state host.old) (H.state host.new) (aim_in p (H.state host.old)).verdict result.0 }
     ensures cause { IsCaused p.files (H.state host.old) (H.state host.new) result.0 }
-    ensures complete { (s : Setup) → Stands s p.chip [] → IsComplete (H.state host.old) (H.state host.new) (status_of_schedule s (bytes_of (H.state host.old) p.files.schedule)) result.0 }
+    ensures complete { IsComplete (H.state host.old) (H.state host.new) (aim_in p (H.state host.old)).verdict result.0 }
     ensures late { IsLate result.0 }
 
     // The chip stands for the events that ran, at Done for all of the schedule.
-    ensures chip { (s : Setup) → Stands s p.chip [] → StandsAfter s (H.state host.old) (bytes_of (H.state host.old) p.files.schedule) result.0 result.1 }
+    ensures chip { StandsAfter (setup_in p) (H.state host.old) (bytes_of (H.state host.old) p.files.schedule) result.0 result.1 }
 
     // What the files hold where it isn't Done.
-    ensures stopped { IsStop result.0 → (s : Setup) → Stands s p.chip [] → HasStopped p.files (H.state host.old) (H.state host.new) (aim_of_schedule s (bytes_of (H.state host.old) p.files.schedule)).texts }
-    ensures fronts { (s : Setup) → Stands s p.chip [] → HasFronts p.files (H.state host.old) (H.state host.new) (aim_of_schedule s (bytes_of (H.state host.old) p.files.schedule)).texts }
+    ensures stopped { IsStop result.0 → HasStopped p.files (H.state host.old) (H.state host.new) (aim_in p (H.state host.old)).texts }
+    ensures fronts { HasFronts p.files (H.state host.old) (H.state host.new) (aim_in p (H.state host.old)).texts }
     ensures others { KeepsOthers p.files (H.state host.old) (H.state host.new) }
     ensures later { IsLater (H.state host.old) (H.state host.new) }
 {

@@ -1,19 +1,18 @@
-// The first steps of a run: configuration and image are read, and the chip is made.
-ghost use Rattle.std.specs.Prelude.{◌≡◌, [], None, Ok, IfOk, IfErr};
+// The first steps of a run: configuration and image are read.
+ghost use Rattle.std.specs.Prelude.{◌≡◌, None, Ok, length, IfOk, IfErr};
 ghost use Rattle.conda_host.specs.State.{IsReading};
 ghost use Rattle.conda_host.specs.declared.outside.Role.TheVariants as role;
 ghost use Rattle.chip_config.specs.Settings.{configured, settings};
-ghost use Rattle.chip_core.specs.Stands.{Stands};
+ghost use Rattle.elf_loader.specs.Image.{image_of};
 ghost use Rattle.conda_engine.specs.Preparing.{HoldsFile, IsFileError, IsConfigured, IsBytesError, IsConfigError, IsImageError, IsLoaded, IsLoadError};
 ghost use Rattle.conda_engine.specs.StatusText.{IsTold};
-ghost use Rattle.conda_engine.specs.Verdict.{refusal_of, setup_of};
+ghost use Rattle.conda_engine.specs.Verdict.{refusal_of};
 
 use crate::Status;
 use crate::calls::{open, read};
 use chip_config::{Config, ConfigFault};
-use chip_core::Chip;
 use conda_host::{Host, Role};
-use elf_loader::{ImageFault, load};
+use elf_loader::{Image, ImageFault, load};
 use std::alloc::Global;
 
 /// The most bytes of a configuration.
@@ -62,34 +61,33 @@ pub fn read_config<H: Host>(alloc: Global, name: &str, host: &mut H) -> Result<C
     config_of(alloc, &bytes)
 }
 
-// A chip at the start of an image.
-fn chip_of(alloc: Global, config: &Config, file: &[u8]) -> Result<Chip, Status>
-    ensures accepted { IfOk result (λ chip. refusal_of (settings config.now) file.now ≡ None) }
-    ensures stands { IfOk result (λ chip. Stands (setup_of (settings config.now) file.now) chip []) }
+// The image that bytes are.
+fn image_in(alloc: Global, config: &Config, file: &[u8]) -> Result<Image, Status>
+    ensures accepted { IfOk result (λ image. refusal_of (settings config.now) file.now ≡ None) }
+    ensures image { IfOk result (λ image. image ≡ image_of file.now config.now.mem_base config.now.mem_bytes) }
+    ensures size { IfOk result (λ image. length image.code.bytes ≡ config.now.mem_bytes) }
     ensures err { IfErr result (IsImageError (settings config.now) file.now) }
     ensures told { IfErr result IsTold }
 {
-    let image = match load(alloc, file, config.mem_base, config.mem_bytes) {
-        Ok(image) => image,
-        Err(ImageFault::OutOfMemory) => return Err(Status::OutOfMemory),
-        Err(fault) => return Err(Status::Image(fault)),
-    };
-    let chip = Chip::new(alloc, config, image)?;
-    Ok(chip)
+    match load(alloc, file, config.mem_base, config.mem_bytes) {
+        Ok(image) => Ok(image),
+        Err(ImageFault::OutOfMemory) => Err(Status::OutOfMemory),
+        Err(fault) => Err(Status::Image(fault)),
+    }
 }
 
-/// Reads the image, and makes the chip that it is run on.
-pub fn load_chip<H: Host>(
+/// Reads the image.
+pub fn load_image<H: Host>(
     alloc: Global,
     config: &Config,
     name: &str,
     host: &mut H,
-) -> Result<Chip, Status>
+) -> Result<Image, Status>
     ensures ok { IfOk result (IsLoaded (settings config.now) (H.state host.old) name.now) }
     ensures err { IfErr result (IsLoadError (settings config.now) (H.state host.old) (H.state host.new) name.now) }
     ensures told { IfErr result IsTold }
     ensures rest { IsReading (H.state host.old) (H.state host.new) role.Image }
 {
     let file = read_file(alloc, host, Role::Image, name, IMAGE_LIMIT)?;
-    chip_of(alloc, config, &file)
+    image_in(alloc, config, &file)
 }

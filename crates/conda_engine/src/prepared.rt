@@ -6,12 +6,13 @@ ghost use Rattle.command_words.specs.Words.{AreApart, named, run_files};
 
 use crate::Status;
 use crate::files::{FileWords, copy_names};
-use crate::loading::{load_chip, read_config};
+use crate::loading::{load_image, read_config};
 use chip_config::Config;
 use chip_core::Chip;
 use chip_run::ScheduleRun;
 use command_words::{FileNames, names_of};
 use conda_host::Host;
+use elf_loader::Image;
 use std::alloc::{AllocError, Global};
 use std::marker::Model;
 
@@ -19,23 +20,27 @@ use std::marker::Model;
 #[derive(Drop)]
 pub struct Prepared {
     config: Config,
+    entry: u32,
     files: FileWords,
     task: ScheduleRun,
 }
 
 impl Model for Prepared {
+    ghost use Rattle.std.specs.Prelude.{[]};
+    ghost use Rattle.chip_core.specs.Stands.{Stands, setup_for};
     ghost use Rattle.conda_engine.specs.Preparing.{PreparedView, IsUnused, worded};
 
     ghost Value = { PreparedView };
 
-    ghost view = { λ p. record { config = p.config; files = worded p.files; chip = p.task.run.chip } };
+    ghost view = { λ p. record { config = p.config; image = record { entry = p.entry; code = p.task.run.chip.code }; files = worded p.files } };
 
-    ghost invariant = { λ p. IsUnused (worded p.files) p.task.run };
+    ghost invariant = { λ p. IsUnused (worded p.files) p.task.run × Stands (setup_for p.config (record { entry = p.entry; code = p.task.run.chip.code })) p.task.run.chip [] };
 }
 
 impl Prepared {
-    ghost use Rattle.std.specs.Prelude.{◌≡◌, IfOk};
-    ghost use Rattle.conda_engine.specs.Preparing.{IsUnused, worded};
+    ghost use Rattle.std.specs.Prelude.{◌≡◌, [], length, IfOk};
+    ghost use Rattle.chip_core.specs.Stands.{Stands};
+    ghost use Rattle.conda_engine.specs.Preparing.{IsUnused, setup_in, worded};
     ghost use Rattle.command_words.specs.Words.{AreApart, named};
 
     // Takes the memory of a run.
@@ -43,15 +48,20 @@ impl Prepared {
         alloc: Global,
         config: Config,
         names: &FileNames,
-        chip: Chip,
+        image: Image,
     ) -> Result<Prepared, AllocError>
-        requires { AreApart (named names.now) }
-        ensures { IfOk result (λ p. p ≡ record { config = config; files = named names.now; chip = chip }) }
+        requires apart { AreApart (named names.now) }
+        requires base { image.code.base ≡ config.mem_base }
+        requires bytes { length image.code.bytes ≡ config.mem_bytes }
+        ensures { IfOk result (λ p. p ≡ record { config = config; image = image; files = named names.now }) }
     {
         let files = copy_names(alloc, names)?;
+        let entry = image.entry();
+        let chip = Chip::new(alloc, &config, image)?;
         let task = ScheduleRun::new(alloc, chip, names.output.is_some())?;
         Ok(Prepared {
             config,
+            entry,
             files,
             task,
         })
@@ -60,8 +70,8 @@ impl Prepared {
     /// The files, and the run with its buffers.
     pub fn into_parts(self) -> (FileWords, ScheduleRun)
         ensures files { worded result.0 ≡ self.files }
-        ensures chip { result.1.run.chip ≡ self.chip }
         ensures unused { IsUnused (worded result.0) result.1.run }
+        ensures stands { Stands (setup_in self) result.1.run.chip [] }
     {
         (self.files, self.task)
     }
@@ -87,8 +97,8 @@ fn prepare_files<H: Host>(
     ensures rest { OnlyReads (H.state host.old) (H.state host.new) }
 {
     let config = read_config(alloc, names.config, host)?;
-    let chip = load_chip(alloc, &config, names.image, host)?;
-    let prepared = Prepared::new(alloc, config, names, chip)?;
+    let image = load_image(alloc, &config, names.image, host)?;
+    let prepared = Prepared::new(alloc, config, names, image)?;
     Ok(prepared)
 }
 
@@ -96,7 +106,7 @@ fn prepare_files<H: Host>(
 ///
 /// Where memory runs out the answer is `OutOfMemory`; no clause says when.
 pub fn prepare<H: Host>(alloc: Global, words: &[String], host: &mut H) -> Result<Prepared, Status>
-    // The chip is at the start of what the files of configuration and image say.
+    // Configuration and image are what their files say, and the files are those of the words.
     ensures ready { IfOk result (λ p. IfSome (run_files (map string_bytes words.now)) (λ files. IsReadyFor files (H.state host.old) p)) }
 
     // The words alone decide whether it is Usage, and then nothing is touched.

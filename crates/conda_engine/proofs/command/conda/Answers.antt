@@ -13,12 +13,12 @@ ended : (g : Over) (c : goal.After-drop-drive-in-Ok-3 g)
 ended g c =
     ends_for (run_files (map string_bytes c.args.words.now)) (g.H.Host.state c.args.host.now) (g.H.Host.state c.prepare.new.host) (g.H.Host.state c.drive-status.new.host) c.in-Ok.prepared c.drive-status.result.0
     c.in-Ok.ensures.ready c.in-Ok.ensures.unmade c.drive-status.ensures.later
-    (λ s stands. record {
-      answered = c.drive-status.ensures.answer s stands;
+    (record {
+      answered = c.drive-status.ensures.answer;
       caused = c.drive-status.ensures.cause;
-      done = λ d. c.drive-status.ensures.done d s stands;
-      stopped = λ stop. c.drive-status.ensures.stopped stop s stands;
-      fronts = c.drive-status.ensures.fronts s stands;
+      done = c.drive-status.ensures.done;
+      stopped = c.drive-status.ensures.stopped;
+      fronts = c.drive-status.ensures.fronts;
     })
 
 pub returns-in-Ok-clause-done : goal.returns-in-Ok-clause-done
