@@ -1,5 +1,6 @@
 mod ListFacts
 pub mod EventFacts
+pub mod JournalFacts
 pub mod RunFacts
 pub mod StandFacts
 mod LineFacts

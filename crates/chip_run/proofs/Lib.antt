@@ -1,6 +1,5 @@
 pub mod FrameFacts
 pub mod GoingFacts
-pub mod JournalFacts
 pub mod ReadingFacts
 pub mod ReadyFacts
 pub mod RunFacts

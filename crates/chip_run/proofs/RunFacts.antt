@@ -16,7 +16,7 @@ use Rattle.chip_run.specs.declared.run.Run.{Run}
 use Rattle.chip_run.specs.Running.{IsRun, HasTextsSoFar, HoldFrontsOf}
 use Rattle.chip_run.specs.Texts.{Names, HasText, HasTextSoFar, HasOutput, HasOutputSoFar, HasTexts, HoldsFront, HoldsOutputFront, HoldFronts}
 use Rattle.chip_run.specs.WriterView.{WriterView}
-use Rattle.chip_run.proofs.JournalFacts.{order-push, order-more, output-more}
+use Rattle.chip_core.proofs.JournalFacts.{order-push, order-more, output-more}
 use Rattle.chip_run.proofs.WriterFacts.{front_longer, front_so_far, so_far_of_text, so_far_stays, text_of_so_far}
 
 order_other : Order ≢ Output

@@ -1,5 +1,5 @@
 -- Numbers and lines in a list of bytes, the lowest byte first.
-use Rattle.std.specs.Prelude.{ℕ, ◌+◌, ◌-◌, ◌*◌, List, [], ◌∷◌, ◌++◌, take, drop, if◌then◌else◌, nat_le}
+use Rattle.std.specs.Prelude.{ℕ, ◌+◌, ◌-◌, ◌*◌, List, [], ◌∷◌, ◌++◌, take, drop, length, replicate, if◌then◌else◌, nat_le}
 use Rattle.std.specs.Int.{to_le_bytes, w32}
 
 -- the bytes with the low `size` bytes of the value at `offset`, the lowest first
@@ -19,3 +19,7 @@ value_at bytes offset size = number_of (take size (drop offset bytes))
 abbrev pub bytes_of_line : ℕ → ℕ → List ℕ → ℕ → List ℕ
 bytes_of_line base line_bytes memory l =
     if nat_le base (l * line_bytes) then take line_bytes (drop (l * line_bytes - base) memory) else []
+
+-- a line's bytes in a buffer of 128, with zeros after them
+abbrev pub handed_out : List ℕ → List ℕ
+handed_out bytes = bytes ++ replicate (128 - length bytes) 0

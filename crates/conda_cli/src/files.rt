@@ -1,45 +1,34 @@
 // Files of the machine, of which nothing is told.
-ghost use Rattle.std.specs.Prelude.{◌≡◌, ◌≤◌, ◌<◌, ◌+◌, ◌-◌, ◌^◌, min, length, slice_index, slice_set, IfOk};
+ghost use Rattle.std.specs.Prelude.{◌≡◌, ◌≤◌, ◌<◌, ◌+◌, ◌-◌, ◌^◌, min, length, slice_index, slice_set, is_some, IfOk};
 
 use conda_host::{Host, HostFailed, ROLES, Role};
 use std::fs;
 use std::fs::Files;
 use std::io::{Read, Write};
 
-// The file of a role.
-#[derive(Drop)]
-enum Handle<F> {
-    Closed,
-    Reading(F),
-    Writing(F),
+// Reads an opened file.
+fn read_some<F: Read>(source: &mut Option<F>, buf: &mut [u8]) -> Result<usize, HostFailed>
+    ensures bound { IfOk result (λ n. n ≤ length buf.old) }
+    ensures kind { is_some source.new ≡ is_some source.old }
+{
+    match source {
+        Some(file) => file.read(buf).map_err(|_| HostFailed),
+        None => Err(HostFailed),
+    }
 }
 
-impl<F: Read + Write> Handle<F> {
-    ghost use Rattle.conda_cli.specs.StdHost.{quiet_role};
-
-    fn read(&mut self, buf: &mut [u8]) -> Result<usize, HostFailed>
-        ensures bound { IfOk result (λ n. n ≤ length buf.old) }
-        ensures kind { quiet_role self.new ≡ quiet_role self.old }
-    {
-        match self {
-            Handle::Reading(file) => file.read(buf).map_err(|_| HostFailed),
+// Writes to a created file. Taking nothing of a piece is a fault.
+fn write_some<F: Write>(made: &mut Option<F>, bytes: &[u8]) -> Result<usize, HostFailed>
+    ensures bound { IfOk result (λ n. n ≤ length bytes.now) }
+    ensures some { IfOk result (λ n. 0 < length bytes.now → 0 < n) }
+    ensures kind { is_some made.new ≡ is_some made.old }
+{
+    match made {
+        Some(file) => match file.write(bytes) {
+            Ok(n) if n > 0 || bytes.is_empty() => Ok(n),
             _ => Err(HostFailed),
-        }
-    }
-
-    // Taking nothing of a piece is a fault.
-    fn write(&mut self, bytes: &[u8]) -> Result<usize, HostFailed>
-        ensures bound { IfOk result (λ n. n ≤ length bytes.now) }
-        ensures some { IfOk result (λ n. 0 < length bytes.now → 0 < n) }
-        ensures kind { quiet_role self.new ≡ quiet_role self.old }
-    {
-        match self {
-            Handle::Writing(file) => match file.write(bytes) {
-                Ok(n) if n > 0 || bytes.is_empty() => Ok(n),
-                _ => Err(HostFailed),
-            },
-            _ => Err(HostFailed),
-        }
+        },
+        None => Err(HostFailed),
     }
 }
 
@@ -54,11 +43,13 @@ fn counted(faults: &mut [u64; ROLES], at: usize) -> HostFailed
     HostFailed
 }
 
-/// The files of the machine, at most one for each role. It counts the faults of each role.
+/// The files of the machine, for each role at most one that is read and one that is written. It
+/// counts the faults of each role.
 #[derive(Drop)]
 pub struct StdHost<R: Files + Drop> {
     rt: R,
-    handles: [Handle<R::File>; ROLES],
+    sources: [Option<R::File>; ROLES],
+    made: [Option<R::File>; ROLES],
     faults: [u64; ROLES],
 }
 
@@ -67,7 +58,8 @@ impl<R: Files + Drop> StdHost<R> {
     pub fn new(rt: R) -> StdHost<R> {
         StdHost {
             rt,
-            handles: [const { Handle::Closed }; ROLES],
+            sources: [const { None }; ROLES],
+            made: [const { None }; ROLES],
             faults: [0; ROLES],
         }
     }
@@ -76,17 +68,17 @@ impl<R: Files + Drop> StdHost<R> {
 impl<R: Files + Drop> Host for StdHost<R> {
     ghost use Rattle.conda_cli.specs.StdHost.{quiet_state};
 
-    ghost state = { λ host. quiet_state host.handles host.faults };
+    ghost state = { λ host. quiet_state host.sources host.made host.faults };
 
     fn open(&mut self, role: Role, name: &str) -> Result<(), HostFailed> {
         let at = role.index();
         match fs::open(&self.rt, name) {
             Ok(file) => {
-                self.handles[at] = Handle::Reading(file);
+                self.sources[at] = Some(file);
                 Ok(())
             }
             Err(_) => {
-                self.handles[at] = Handle::Closed;
+                self.sources[at] = None;
                 Err(counted(&mut self.faults, at))
             }
         }
@@ -94,7 +86,7 @@ impl<R: Files + Drop> Host for StdHost<R> {
 
     fn read(&mut self, role: Role, buf: &mut [u8]) -> Result<usize, HostFailed> {
         let at = role.index();
-        match self.handles[at].read(buf) {
+        match read_some(&mut self.sources[at], buf) {
             Ok(n) => Ok(n),
             Err(_) => Err(counted(&mut self.faults, at)),
         }
@@ -104,11 +96,11 @@ impl<R: Files + Drop> Host for StdHost<R> {
         let at = role.index();
         match fs::create(&self.rt, name) {
             Ok(file) => {
-                self.handles[at] = Handle::Writing(file);
+                self.made[at] = Some(file);
                 Ok(())
             }
             Err(_) => {
-                self.handles[at] = Handle::Closed;
+                self.made[at] = None;
                 Err(counted(&mut self.faults, at))
             }
         }
@@ -116,7 +108,7 @@ impl<R: Files + Drop> Host for StdHost<R> {
 
     fn write(&mut self, role: Role, bytes: &[u8]) -> Result<usize, HostFailed> {
         let at = role.index();
-        match self.handles[at].write(bytes) {
+        match write_some(&mut self.made[at], bytes) {
             Ok(n) => Ok(n),
             Err(_) => Err(counted(&mut self.faults, at)),
         }

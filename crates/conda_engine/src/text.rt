@@ -7,9 +7,9 @@ ghost use Rattle.conda_engine.specs.StatusText.{name_of_role, config_fault_numbe
 use crate::Status;
 use arrayvec::ArrayVec;
 use chip_config::ConfigFault;
+use conda_base::{push_bytes, push_decimal};
 use conda_host::Role;
 use elf_loader::ImageFault;
-use schedule_log::{push_bytes, push_decimal};
 
 type Line = ArrayVec<u8, 128>;
 

@@ -11,14 +11,14 @@ use Rattle.std.proofs.lemmas.Bool.Decides.{eqb_tells}
 use Rattle.conda_host.specs.declared.outside.Role.{Role}
 use Rattle.conda_host.specs.declared.outside.Role.TheVariants.{Config, Image, Schedule, Order, Report, Output, Source, Program}
 use Rattle.conda_host.specs.declared.slot.Slot.{Slot}
-use Rattle.conda_host.specs.State.{IsReading, IsCreating, IsWriting, Opens, Reads, Creates, Writes}
+use Rattle.conda_host.specs.State.{KeepsOpened, IsReading, IsCreating, IsWriting, Opens, Reads, Creates, Writes}
 use Rattle.conda_host.specs.Role.{index_of}
-use Rattle.conda_host.specs.Memory.{Input, File, IsFirst, input_at, input_bytes, file_of, created_at, unused, no_file, shown, owns, owned_by, own_file, left_of, file_at, find_file, files_made, are_distinct, names_held, names_given, is_among, slot_of, role_with, role_of, state_of}
+use Rattle.conda_host.specs.Memory.{Input, File, IsFirst, input_at, input_bytes, file_of, created_at, unused, no_file, shown, owns, owned_by, own_file, left_of, file_at, file_with, empty_file_for, find_file, files_made, are_distinct, names_held, names_given, is_among, slot_of, role_with, role_of, state_of}
 use Rattle.conda_host.proofs.Roles.{index_injective, index_small}
 use Rattle.conda_host.proofs.Steps.{writing_of_reading}
-use Rattle.conda_host.specs.MemoryHost.{IsStart, Rules, called, places_of}
+use Rattle.conda_host.specs.MemoryHost.{IsStart, Rules, called, places_of, CountsNothing, CountsOne, TakesName}
 use Rattle.std.proofs.lemmas.Bool.Decides.{nat_tests}
-use Rattle.conda_host.proofs.Finds.{input_apart, first_name, first_length, find_set_same, find_set_other, same_name, other_name}
+use Rattle.conda_host.proofs.Finds.{input_apart, first_name, first_length, find_set_same, find_set_other, first_of_held, first_unique, same_name, other_name}
 
 slot_other : (slots : List Slot) (role r : Role) (s : Slot) → r ≢ role → slot_of (set slots (index_of role) s) r ≡ slot_of slots r
 slot_other slots role r s d = get_or-set_other slots (index_of role) (index_of r) s unused (λ e. d (index_injective r role e))
@@ -35,14 +35,56 @@ counts slots role r s h le =
 
 -- calls that change no file
 
--- only the role's slot was changed
-pub slot_changed : (i : List Input) (f : List File) (slots : List Slot) (k : ℕ) (role : Role) (s : Slot) → k ≡ index_of role → length slots ≡ 8 → (get_or slots k unused).faults ≤ s.faults → IsReading (state_of i f slots) (state_of i f (set slots k s)) role
-slot_changed i f slots k role s e h le =
+-- only the role's slot was changed, but for its output
+pub slot_changed : (i : List Input) (f : List File) (slots : List Slot) (k : ℕ) (role : Role) (s : Slot) → k ≡ index_of role → length slots ≡ 8 → (get_or slots k unused).faults ≤ s.faults → s.output ≡ (get_or slots k unused).output
+    → IsReading (state_of i f slots) (state_of i f (set slots k s)) role
+slot_changed i f slots k role s e h le same =
     let le' : (slot_of slots role).faults ≤ s.faults = subst (λ x. (get_or slots x unused).faults ≤ s.faults) e le in
+    let here : (slot_of (set slots (index_of role) s) role).output ≡ (slot_of slots role).output =
+    ap (λ t. t.output) (slot_same slots role s h) ∙ subst (λ x. s.output ≡ (get_or slots x unused).output) e same in
     rw e (record {
       later = record { tells = refl; counts = λ r n. counts slots role r s h le' };
       files = λ n. refl;
       roles = λ r d. ap (λ t. role_of i f t r) (slot_other slots role r s d);
+      made = record {
+        created = ap (λ o. is_some (own_file f o role)) here;
+        name = ap (λ o. option_map_or (λ g. g.name) (own_file f o role) []) here;
+        written = ap (λ o. option_map_or (λ g. g.bytes) (own_file f o role) []) here;
+      };
+    })
+
+-- what the roles have opened stays, where only what one of them reads could have changed, and didn't
+sources_stay : (i : List Input) (f g : List File) (slots : List Slot) (role r : Role) (s : Slot) → length slots ≡ 8 → s.reading ≡ (slot_of slots role).reading
+    → KeepsOpened (role_of i f (slot_of slots r) r) (role_of i g (slot_of (set slots (index_of role) s) r) r)
+sources_stay i f g slots role r s h same =
+    elim (cases_eq (index_of r) (index_of role)) [
+      | inl e ↦ at ((ap (λ q. (slot_of (set slots (index_of role) s) q).reading) (index_injective r role e) ∙ ap (λ t. t.reading) (slot_same slots role s h) ∙ same) ∙ ap (λ q. (slot_of slots q).reading) (sym (index_injective r role e)))
+      | inr d ↦ at (ap (λ t. t.reading) (slot_other slots role r s (λ e. d (ap index_of e))))
+    ]
+  where
+    at : (slot_of (set slots (index_of role) s) r).reading ≡ (slot_of slots r).reading → KeepsOpened (role_of i f (slot_of slots r) r) (role_of i g (slot_of (set slots (index_of role) s) r) r)
+    at e = record { opened = ap is_some e; left = ap (left_of i) e }
+
+-- the counts of a call that failed, and of one that didn't
+
+pub counted_one : (i : List Input) (f g : List File) (slots : List Slot) (k : ℕ) (role : Role) (s : Slot) → k ≡ index_of role → length slots ≡ 8 → s.faults ≡ min ((get_or slots k unused).faults + 1) (2 ^ 64 - 1)
+    → CountsOne (state_of i f slots) (state_of i g (set slots k s)) role
+counted_one i f g slots k role s e h is =
+    let is' : s.faults ≡ min ((slot_of slots role).faults + 1) (2 ^ 64 - 1) = subst (λ x. s.faults ≡ min ((get_or slots x unused).faults + 1) (2 ^ 64 - 1)) e is in
+    rw e (record {
+      one = λ n. ap (λ t. t.faults) (slot_same slots role s h) ∙ is';
+      others = λ r n d. ap (λ t. t.faults) (slot_other slots role r s d);
+    })
+
+pub counted_none : (i : List Input) (f g : List File) (slots : List Slot) (k : ℕ) (role : Role) (s : Slot) → k ≡ index_of role → length slots ≡ 8 → s.faults ≡ (get_or slots k unused).faults
+    → CountsNothing (state_of i f slots) (state_of i g (set slots k s))
+counted_none i f g slots k role s e h is =
+    let is' : s.faults ≡ (slot_of slots role).faults = subst (λ x. s.faults ≡ (get_or slots x unused).faults) e is in
+    rw e (record {
+      same = λ r n. elim (cases_eq (index_of r) (index_of role)) [
+        | inl q ↦ rw (index_injective r role q) (ap (λ t. t.faults) (slot_same slots role s h) ∙ is')
+        | inr d ↦ ap (λ t. t.faults) (slot_other slots role r s (λ q. d (ap index_of q)))
+      ];
     })
 
 -- an input was opened
@@ -123,12 +165,9 @@ created_name f j r n e h = go (owns (file_at f j).owner r) refl
     go true is = absurd (h (rw (owned r (file_at f j) is) refl) (rw (owned r (file_at f j) is) e))
     go false is = is
 
-abbrev pub empty_for : Role → File → File
-empty_for role f = record f { bytes = []; owner = Some role }
-
-pub create_ok : (i : List Input) (f : List File) (slots : List Slot) (k : ℕ) (role : Role) (j : ℕ) (name : List ℕ) (s : Slot) → k ≡ index_of role → length slots ≡ 8 → s.output ≡ Some j → IsFirst f j name → Creates (state_of i (set f j (empty_for role (file_at f j))) (set slots k s)) role name
+pub create_ok : (i : List Input) (f : List File) (slots : List Slot) (k : ℕ) (role : Role) (j : ℕ) (name : List ℕ) (s : Slot) → k ≡ index_of role → length slots ≡ 8 → s.output ≡ Some j → IsFirst f j name → Creates (state_of i (set f j (empty_file_for role (file_at f j))) (set slots k s)) role name
 create_ok i f slots k role j name s e h out first =
-    let g = empty_for role (file_at f j) in
+    let g = empty_file_for role (file_at f j) in
     let here = slot_same slots role s h in
     let file = file_same f j g (first_length f j name first) in
     let mine = owned role g (owner_itself role) in
@@ -139,9 +178,10 @@ create_ok i f slots k role j name s e h out first =
       file = λ t. rw (find_set_same f j name g first (first_name f j name first)) refl;
     })
 
-pub create_rest : (i : List Input) (f : List File) (slots : List Slot) (k : ℕ) (role : Role) (j : ℕ) (name : List ℕ) (s : Slot) → k ≡ index_of role → length slots ≡ 8 → (get_or slots k unused).faults ≤ s.faults → IsFirst f j name → IsCreating (state_of i f slots) (state_of i (set f j (empty_for role (file_at f j))) (set slots k s)) role name
-create_rest i f slots k role j name s e h le first =
-    let g = empty_for role (file_at f j) in
+pub create_rest : (i : List Input) (f : List File) (slots : List Slot) (k : ℕ) (role : Role) (j : ℕ) (name : List ℕ) (s : Slot) → k ≡ index_of role → length slots ≡ 8 → (get_or slots k unused).faults ≤ s.faults → s.reading ≡ (get_or slots k unused).reading → IsFirst f j name → IsCreating (state_of i f slots) (state_of i (set f j (empty_file_for role (file_at f j))) (set slots k s)) role name
+create_rest i f slots k role j name s e h le reads first =
+    let reads' : s.reading ≡ (slot_of slots role).reading = subst (λ x. s.reading ≡ (get_or slots x unused).reading) e reads in
+    let g = empty_file_for role (file_at f j) in
     let le' : (slot_of slots role).faults ≤ s.faults = subst (λ x. (get_or slots x unused).faults ≤ s.faults) e le in
     rw e (record {
       later = record { tells = refl; counts = λ r n. counts slots role r s h le' };
@@ -151,29 +191,58 @@ create_rest i f slots k role j name s e h le first =
           (own_other f (slot_of slots r).output r j g (first_length f j name first)
           (λ o. created_name f j r name (first_name f j name first) (subst (λ x. IsTrue (is_some (own_file f x r)) → option_map_or (λ y. y.name) (own_file f x r) [] ≢ name) o (other refl)))
           (other_owner r role d));
-      reading = λ r d. (ap (λ t. is_some t.reading) (slot_other slots role r s d), ap (λ t. left_of i t.reading) (slot_other slots role r s d));
+      sources = λ r. sources_stay i f (set f j g) slots role r s h reads';
       kept = λ r d is. ap (λ t. role_of i (set f j g) t r) (slot_other slots role r s d)
           ∙ ap (λ own. role_with (is_some (slot_of slots r).reading) (left_of i (slot_of slots r).reading) own)
           (own_kept f (slot_of slots r).output r j g (first_length f j name first) (other_owner r role d)
           (subst (λ t. IsTrue (is_some (own_file (set f j g) t.output r))) (slot_other slots role r s d) is));
     })
 
+-- a role that has another file than the changed one has another name
+own_apart : (f : List File) (o : Option ℕ) (r : Role) (j : ℕ) (g : File) (n : List ℕ) → j < length f → owns g.owner r ≡ false → ((m : ℕ) → m ≢ j → m < length f → (file_at f m).name ≢ n)
+    → IsTrue (is_some (own_file (set f j g) o r)) → option_map_or (λ x. x.name) (own_file (set f j g) o r) [] ≢ n
+own_apart f None r j g n h new apart is = absurd (cc)
+own_apart f (Some m) r j g n h new apart is =
+    elim (cases_eq m j) [
+      | inl e ↦ absurd (no_file (rw (e, file_same f j g h, not_owned r g new) at is))
+      | inr d ↦ rw (file_other f j m g d) (go d (owns (file_at f m).owner r) refl)
+    ]
+  where
+    no_file : IsTrue false → ⊥
+    no_file x = cc
+
+    go : m ≢ j → (b : Bool) → owns (file_at f m).owner r ≡ b → option_map_or (λ x. x.name) (owned_by r (file_at f m)) [] ≢ n
+    go d true mine = rw (owned r (file_at f m) mine) (apart m d (place_of_owned f m r mine))
+    go d false other = absurd (no_file (rw (file_other f j m g d, not_owned r (file_at f m) other) at is))
+
+pub create_takes : (i : List Input) (f : List File) (slots : List Slot) (k : ℕ) (role : Role) (j : ℕ) (name : List ℕ) (s : Slot) → k ≡ index_of role → IsTrue (are_distinct (names_held i f)) → IsFirst f j name
+    → TakesName (state_of i (set f j (empty_file_for role (file_at f j))) (set slots k s)) role name
+create_takes i f slots k role j name s e distinct first =
+    let g = empty_file_for role (file_at f j) in
+    rw e (record {
+      alone = λ r d is. subst (λ t. option_map_or (λ x. x.name) (own_file (set f j g) t.output r) [] ≢ name) (sym (slot_other slots role r s d))
+          (own_apart f (slot_of slots r).output r j g name (first_length f j name first) (other_owner r role d) apart
+          (subst (λ t. IsTrue (is_some (own_file (set f j g) t.output r))) (slot_other slots role r s d) is));
+    })
+  where
+    apart : (m : ℕ) → m ≢ j → m < length f → (file_at f m).name ≢ name
+    apart m d within same = d (first_unique f j m name first (subst (IsFirst f m) same (first_of_held i f m distinct within)))
+
 -- a create that failed
-pub create_failed : (i : List Input) (f : List File) (slots : List Slot) (k : ℕ) (role : Role) (name : List ℕ) (s : Slot) → k ≡ index_of role → length slots ≡ 8 → (get_or slots k unused).faults ≤ s.faults → IsCreating (state_of i f slots) (state_of i f (set slots k s)) role name
-create_failed i f slots k role name s e h le =
-    let p = slot_changed i f slots k role s e h le in
-    record {
-      later = p.later;
-      files = λ n d. p.files n;
-      roles = λ r d other. p.roles r d;
-      reading = λ r d. (ap (λ t. t.opened) (p.roles r d), ap (λ t. t.left) (p.roles r d));
-      kept = λ r d is. p.roles r d;
-    }
+pub create_failed : (i : List Input) (f : List File) (slots : List Slot) (k : ℕ) (role : Role) (name : List ℕ) (s : Slot) → k ≡ index_of role → length slots ≡ 8 → (get_or slots k unused).faults ≤ s.faults → s.reading ≡ (get_or slots k unused).reading
+    → IsCreating (state_of i f slots) (state_of i f (set slots k s)) role name
+create_failed i f slots k role name s e h le reads =
+    let le' : (slot_of slots role).faults ≤ s.faults = subst (λ x. (get_or slots x unused).faults ≤ s.faults) e le in
+    let reads' : s.reading ≡ (slot_of slots role).reading = subst (λ x. s.reading ≡ (get_or slots x unused).reading) e reads in
+    rw e (record {
+      later = record { tells = refl; counts = λ r n. counts slots role r s h le' };
+      files = λ n d. refl;
+      roles = λ r d other. ap (λ t. role_of i f t r) (slot_other slots role r s d);
+      sources = λ r. sources_stay i f f slots role r s h reads';
+      kept = λ r d is. ap (λ t. role_of i f t r) (slot_other slots role r s d);
+    })
 
 -- writing
-
-abbrev pub with_more : List ℕ → File → File
-with_more more f = record f { bytes = f.bytes ++ more }
 
 -- the role has the file at this place
 pub owned_there : (f : List File) (slots : List Slot) (k : ℕ) (role : Role) (j : ℕ) → k ≡ index_of role → (get_or slots k unused).output ≡ Some j → IsTrue (is_some (own_file f (slot_of slots role).output role)) → owns (file_at f j).owner role ≡ true
@@ -189,9 +258,9 @@ owned_there f slots k role j e out is = go (owns (file_at f j).owner role) refl
     go true mine = mine
     go false other = absurd (nothing (rw (not_owned role (file_at f j) other) at there))
 
-pub write_ok : (i : List Input) (f : List File) (slots : List Slot) (k : ℕ) (role : Role) (j : ℕ) (bytes : List ℕ) (n : ℕ) → k ≡ index_of role → (get_or slots k unused).output ≡ Some j → owns (file_at f j).owner role ≡ true → IsFirst f j (file_at f j).name → n ≤ length bytes → (0 < length bytes → 0 < n) → Writes (state_of i f slots) (state_of i (set f j (with_more (take n bytes) (file_at f j))) slots) role bytes n
+pub write_ok : (i : List Input) (f : List File) (slots : List Slot) (k : ℕ) (role : Role) (j : ℕ) (bytes : List ℕ) (n : ℕ) → k ≡ index_of role → (get_or slots k unused).output ≡ Some j → owns (file_at f j).owner role ≡ true → IsFirst f j (file_at f j).name → n ≤ length bytes → (0 < length bytes → 0 < n) → Writes (state_of i f slots) (state_of i (set f j (file_with (take n bytes) (file_at f j))) slots) role bytes n
 write_ok i f slots k role j bytes n e out mine first le some =
-    let g = with_more (take n bytes) (file_at f j) in
+    let g = file_with (take n bytes) (file_at f j) in
     let out' : (slot_of slots role).output ≡ Some j = subst (λ x. (get_or slots x unused).output ≡ Some j) e out in
     let file = file_same f j g (first_length f j _ first) in
     let old = owned role (file_at f j) mine in
@@ -207,9 +276,9 @@ write_ok i f slots k role j bytes n e out mine first le some =
     made None h = absurd (cc)
     made (Some q) h = refl
 
-pub write_rest : (i : List Input) (f : List File) (slots : List Slot) (k : ℕ) (role : Role) (j : ℕ) (more : List ℕ) → k ≡ index_of role → (get_or slots k unused).output ≡ Some j → owns (file_at f j).owner role ≡ true → IsFirst f j (file_at f j).name → IsWriting (state_of i f slots) (state_of i (set f j (with_more more (file_at f j))) slots) role
+pub write_rest : (i : List Input) (f : List File) (slots : List Slot) (k : ℕ) (role : Role) (j : ℕ) (more : List ℕ) → k ≡ index_of role → (get_or slots k unused).output ≡ Some j → owns (file_at f j).owner role ≡ true → IsFirst f j (file_at f j).name → IsWriting (state_of i f slots) (state_of i (set f j (file_with more (file_at f j))) slots) role
 write_rest i f slots k role j more e out mine first =
-    let g = with_more more (file_at f j) in
+    let g = file_with more (file_at f j) in
     let out' : (slot_of slots role).output ≡ Some j = subst (λ x. (get_or slots x unused).output ≡ Some j) e out in
     let file = file_same f j g (first_length f j _ first) in
     let old = owned role (file_at f j) mine in
@@ -221,6 +290,7 @@ write_rest i f slots k role j more e out mine first =
           (own_other f (slot_of slots r).output r j g (first_length f j _ first) (λ o. one_owner (file_at f j).owner r role mine d) (one_owner (file_at f j).owner r role mine d));
       created = rw (out', file, new) refl;
       name = rw (out', file, old, new) refl;
+      source = record { opened = refl; left = refl };
     }
 
 -- a write that failed
@@ -228,7 +298,7 @@ pub write_failed : (i : List Input) (f : List File) (slots : List Slot) (k : ℕ
 write_failed i f slots k role s e h le same is =
     let same' : s ≡ record (slot_of slots role) { faults = s.faults } = subst (λ x. s ≡ record (get_or slots x unused) { faults = s.faults }) e same in
     let here : slot_of (set slots k s) role ≡ record (slot_of slots role) { faults = s.faults } = rw e (slot_same slots role s h ∙ same') in
-    writing_of_reading is (ap (λ t. role_of i f t role) here) (slot_changed i f slots k role s e h le)
+    writing_of_reading is (ap (λ t. role_of i f t role) here) (slot_changed i f slots k role s e h le (ap (λ t. t.output) same))
 
 -- the start
 

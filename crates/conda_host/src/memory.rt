@@ -1,13 +1,14 @@
 // Files in memory.
-ghost use Rattle.std.specs.Prelude.{◌≡◌, ◌↔◌, take, drop, [], ◌++◌, vec_len, slice_set, ◌<◌, ◌≤◌, ◌+◌, ◌-◌, ◌^◌, length, min, MatchOption, IsTrue, IfOk, Some, None};
-ghost use Rattle.conda_host.specs.Memory.{input_at, input_bytes, find_file, files_seen, file_at, IsFirst, are_distinct, names_held, files_made, stands_in};
+ghost use Rattle.std.specs.Prelude.{◌≡◌, ◌↔◌, take, drop, [], ◌++◌, vec_len, slice_set, ◌<◌, ◌≤◌, ◌+◌, ◌-◌, ◌^◌, length, min, MatchOption, IsTrue, IfOk, None};
+ghost use Rattle.conda_host.specs.Memory.{HasInput, input_at, input_bytes, find_file, files_seen, file_at, file_with, empty_file_for, room_of, IsFirst, are_distinct, names_held, files_made, stands_in};
 
 use crate::output::Output;
 use crate::slot::{Reading, Slot, UNUSED};
 use crate::{Host, HostFailed, ROLES, Role};
 use std::alloc::{AllocError, Global};
 
-/// A host whose files lie in memory, and of which chosen calls fail. It takes memory only when it is made.
+/// A host whose files lie in memory, and of which chosen calls fail. It takes memory only when it
+/// is made.
 #[derive(Drop)]
 pub struct MemoryHost {
     inputs: Vec<(String, Vec<u8>)>,
@@ -21,7 +22,8 @@ pub struct MemoryHost {
 }
 
 fn find_input(inputs: &[(String, Vec<u8>)], name: &str) -> Option<usize>
-    ensures { MatchOption result (input_at inputs.now name.now ≡ None) (λ i. (i < length inputs.now) × (input_at inputs.now name.now ≡ Some (input_bytes inputs.now i))) }
+    ensures { MatchOption result (input_at inputs.now name.now ≡ None)
+        (λ i. HasInput inputs.now name.now i) }
 {
     for (i, input) in inputs.iter().enumerate() {
         if input.0.as_str() == name {
@@ -32,7 +34,8 @@ fn find_input(inputs: &[(String, Vec<u8>)], name: &str) -> Option<usize>
 }
 
 fn find_output(outputs: &[Output], name: &str) -> Option<usize>
-    ensures { MatchOption result (find_file (files_seen outputs.now) name.now ≡ None) (λ j. (j < length outputs.now) × IsFirst (files_seen outputs.now) j name.now) }
+    ensures { MatchOption result (find_file (files_seen outputs.now) name.now ≡ None)
+        (λ j. (j < length outputs.now) × IsFirst (files_seen outputs.now) j name.now) }
 {
     for (i, output) in outputs.iter().enumerate() {
         if output.name() == name {
@@ -55,7 +58,8 @@ fn bytes_of(inputs: &[(String, Vec<u8>)], i: usize) -> &[u8]
 // Creates the output at a place for a role.
 fn create_output(outputs: &mut Vec<Output>, j: usize, role: Role)
     requires { j < vec_len outputs.old }
-    ensures { files_seen outputs.new.items ≡ slice_set (files_seen outputs.old.items) j (record (file_at (files_seen outputs.old.items) j) { bytes = []; owner = Some role }) }
+    ensures { files_seen outputs.new.items ≡ slice_set (files_seen outputs.old.items) j
+        (empty_file_for role (file_at (files_seen outputs.old.items) j)) }
 {
     outputs[j].create(role);
 }
@@ -63,8 +67,10 @@ fn create_output(outputs: &mut Vec<Output>, j: usize, role: Role)
 // Appends to the output at a place.
 fn append_output(outputs: &mut Vec<Output>, j: usize, bytes: &[u8])
     requires place { j < vec_len outputs.old }
-    requires room { length (file_at (files_seen outputs.old.items) j).bytes + length bytes.now ≤ (file_at (files_seen outputs.old.items) j).room }
-    ensures { files_seen outputs.new.items ≡ slice_set (files_seen outputs.old.items) j (record (file_at (files_seen outputs.old.items) j) { bytes = (file_at (files_seen outputs.old.items) j).bytes ++ bytes.now }) }
+    requires room { length (file_at (files_seen outputs.old.items) j).bytes + length bytes.now
+        ≤ (file_at (files_seen outputs.old.items) j).room }
+    ensures { files_seen outputs.new.items ≡ slice_set (files_seen outputs.old.items) j
+        (file_with bytes.now (file_at (files_seen outputs.old.items) j)) }
 {
     outputs[j].append(bytes);
 }
@@ -72,8 +78,9 @@ fn append_output(outputs: &mut Vec<Output>, j: usize, bytes: &[u8])
 // How many of the bytes the output at a place takes.
 fn taken(outputs: &[Output], j: usize, most: usize, len: usize) -> usize
     requires { j < length outputs.now }
-    ensures value { result ≡ min (min len most) ((file_at (files_seen outputs.now) j).room - length (file_at (files_seen outputs.now) j).bytes) }
-    ensures fits { length (file_at (files_seen outputs.now) j).bytes + result ≤ (file_at (files_seen outputs.now) j).room }
+    ensures value { result ≡ min (min len most) (room_of (file_at (files_seen outputs.now) j)) }
+    ensures fits { length (file_at (files_seen outputs.now) j).bytes + result
+        ≤ (file_at (files_seen outputs.now) j).room }
 {
     len.min(most).min(outputs[j].free())
 }
@@ -109,7 +116,7 @@ impl MemoryHost {
     ghost use Rattle.std.specs.Prelude.{◌||◌, is_some};
     ghost use Rattle.std.specs.Option.{option_copied};
     ghost use Rattle.conda_host.specs.Memory.{names_given};
-    ghost use Rattle.conda_host.specs.MemoryHost.{memory_state, IsStart, rules_of, rules_made, was_created};
+    ghost use Rattle.conda_host.specs.MemoryHost.{memory_state, IsStart, rules_of, rules_made, is_input, was_created};
 
     /// A host with these inputs, and with so many bytes of room for each output. A call moves at
     /// most so many bytes. Calls are numbered from 1, and those in `failing` fail.
@@ -124,7 +131,8 @@ impl MemoryHost {
         requires distinct { IsTrue (are_distinct (names_given inputs.items outputs.items)) }
         requires moves { 1 ≤ most }
         ensures start { IfOk result (λ host. IsStart (memory_state host) inputs.items) }
-        ensures rules { IfOk result (λ host. rules_of host ≡ rules_made inputs.items outputs.items room most failing.items) }
+        ensures rules { IfOk result (λ host. rules_of host
+            ≡ rules_made inputs.items outputs.items room most failing.items) }
     {
         let outputs = reserve(alloc, outputs, room)?;
         Ok(MemoryHost {
@@ -140,7 +148,8 @@ impl MemoryHost {
     /// The bytes of a file, which is an input or was created.
     pub fn file(&self, name: &str) -> Option<&[u8]>
         ensures bytes { option_copied result ≡ (memory_state self.now).file name.now }
-        ensures found { is_some result ≡ (is_some (input_at (rules_of self.now).inputs name.now) || was_created self.now name.now) }
+        ensures found { is_some result ≡ (is_input self.now name.now
+            || was_created self.now name.now) }
     {
         if let Some(j) = find_output(&self.outputs, name) {
             let output = &self.outputs[j];
@@ -167,20 +176,21 @@ fn reserve(alloc: Global, names: Vec<String>, room: usize) -> Result<Vec<Output>
 }
 
 impl Host for MemoryHost {
-    ghost use Rattle.std.specs.Prelude.{◌&&◌, ◌||◌, false, map, not, is_ok, is_some, nat_lt, nat_eq, OnOk, OnErr};
+    ghost use Rattle.std.specs.Prelude.{◌&&◌, false, not, is_ok, OnOk, OnErr};
     ghost use Rattle.conda_host.specs.State.{IsReading, IsWriting, IsCreating, Opens, Reads, Creates, Writes, Rose, RoseForAll, IsOpened, IsCreated};
-    ghost use Rattle.conda_host.specs.Memory.{is_among};
-    ghost use Rattle.conda_host.specs.MemoryHost.{memory_state, rules_of, called, fails_next, room_left};
+    ghost use Rattle.conda_host.specs.MemoryHost.{memory_state, fails_next, is_input, is_output, has_room_for, read_count, write_count, Serves, TakesName, Moves};
 
     ghost state = { memory_state };
 
     fn open(&mut self, role: Role, name: &str) -> Result<(), HostFailed>
-        ensures ok { OnOk result (Opens (memory_state self.old) (memory_state self.new) role name.now) }
+        ensures ok { OnOk result (Opens (memory_state self.old)
+            (memory_state self.new) role name.now) }
         ensures err { OnErr result (IsOpened (memory_state self.new) role ≡ false) }
-        ensures cause { OnErr result (Rose (memory_state self.old) (memory_state self.new) role name.now) }
+        ensures cause { OnErr result (Rose (memory_state self.old)
+            (memory_state self.new) role name.now) }
         ensures rest { IsReading (memory_state self.old) (memory_state self.new) role }
-        ensures when { is_ok result ≡ (not (fails_next self.old) && is_some (input_at (rules_of self.old).inputs name.now)) }
-        ensures rules { rules_of self.new ≡ called (rules_of self.old) }
+        ensures served { Serves self.old self.new role result }
+        ensures when { is_ok result ≡ (not (fails_next self.old) && is_input self.old name.now) }
     {
         let at = role.index();
         let slot = self.slots[at];
@@ -204,13 +214,16 @@ impl Host for MemoryHost {
 
     fn read(&mut self, role: Role, buf: &mut [u8]) -> Result<usize, HostFailed>
         requires { IsTrue (IsOpened (memory_state self.old) role) }
-        ensures ok { IfOk result (λ n. Reads (memory_state self.old) (memory_state self.new) role buf.old buf.new n) }
-        ensures err { OnErr result ((memory_state self.new).role role ≡ (memory_state self.old).role role) }
-        ensures cause { OnErr result (RoseForAll (memory_state self.old) (memory_state self.new) role) }
+        ensures ok { IfOk result (λ n. Reads (memory_state self.old)
+            (memory_state self.new) role buf.old buf.new n) }
+        ensures err { OnErr result ((memory_state self.new).role role
+            ≡ (memory_state self.old).role role) }
+        ensures cause { OnErr result (RoseForAll (memory_state self.old)
+            (memory_state self.new) role) }
         ensures rest { IsReading (memory_state self.old) (memory_state self.new) role }
-        ensures when { is_ok result ≡ not (fails_next self.old) }
-        ensures count { IfOk result (λ n. n ≡ min (min (length ((memory_state self.old).role role).left) (length buf.old)) (rules_of self.old).most) }
-        ensures rules { rules_of self.new ≡ called (rules_of self.old) }
+        ensures served { Serves self.old self.new role result }
+        ensures moves { Moves result (not (fails_next self.old))
+            (read_count self.old role (length buf.old)) }
     {
         let at = role.index();
         let slot = self.slots[at];
@@ -235,10 +248,12 @@ impl Host for MemoryHost {
     fn create(&mut self, role: Role, name: &str) -> Result<(), HostFailed>
         ensures ok { OnOk result (Creates (memory_state self.new) role name.now) }
         ensures err { OnErr result (IsCreated (memory_state self.new) role ≡ false) }
-        ensures cause { OnErr result (Rose (memory_state self.old) (memory_state self.new) role name.now) }
+        ensures cause { OnErr result (Rose (memory_state self.old)
+            (memory_state self.new) role name.now) }
         ensures rest { IsCreating (memory_state self.old) (memory_state self.new) role name.now }
-        ensures when { is_ok result ≡ (not (fails_next self.old) && is_among (map (λ place. place.0) (rules_of self.old).places) name.now) }
-        ensures rules { rules_of self.new ≡ called (rules_of self.old) }
+        ensures served { Serves self.old self.new role result }
+        ensures takes { OnOk result (TakesName (memory_state self.new) role name.now) }
+        ensures when { is_ok result ≡ (not (fails_next self.old) && is_output self.old name.now) }
     {
         let at = role.index();
         let slot = self.slots[at];
@@ -263,14 +278,19 @@ impl Host for MemoryHost {
 
     fn write(&mut self, role: Role, bytes: &[u8]) -> Result<usize, HostFailed>
         requires { IsTrue (IsCreated (memory_state self.old) role) }
-        ensures ok { IfOk result (λ n. Writes (memory_state self.old) (memory_state self.new) role bytes.now n) }
-        ensures err { OnErr result ((memory_state self.new).role role ≡ (memory_state self.old).role role) }
-        ensures err_files { OnErr result (IsReading (memory_state self.old) (memory_state self.new) role) }
-        ensures cause { OnErr result (RoseForAll (memory_state self.old) (memory_state self.new) role) }
+        ensures ok { IfOk result (λ n. Writes (memory_state self.old)
+            (memory_state self.new) role bytes.now n) }
+        ensures err { OnErr result ((memory_state self.new).role role
+            ≡ (memory_state self.old).role role) }
+        ensures err_files { OnErr result (IsReading (memory_state self.old)
+            (memory_state self.new) role) }
+        ensures cause { OnErr result (RoseForAll (memory_state self.old)
+            (memory_state self.new) role) }
         ensures rest { IsWriting (memory_state self.old) (memory_state self.new) role }
-        ensures when { is_ok result ≡ (not (fails_next self.old) && (nat_lt 0 (room_left self.old role) || nat_eq (length bytes.now) 0)) }
-        ensures count { IfOk result (λ n. n ≡ min (min (length bytes.now) (rules_of self.old).most) (room_left self.old role)) }
-        ensures rules { rules_of self.new ≡ called (rules_of self.old) }
+        ensures served { Serves self.old self.new role result }
+        ensures moves { Moves result (not (fails_next self.old)
+            && has_room_for self.old role (length bytes.now))
+            (write_count self.old role (length bytes.now)) }
     {
         let at = role.index();
         let slot = self.slots[at];

@@ -1,6 +1,7 @@
 -- What contracts see of a cache: its lines in sets, each with its state and its bytes.
-use Rattle.std.specs.Prelude.{ℕ, ◌≡◌, ◌-◌, List, [], ◌∷◌, ◌++◌, map, take, length, replicate, slice_index_or, Option, Some, None, IsSome, IfSome}
+use Rattle.std.specs.Prelude.{ℕ, ◌≡◌, List, [], ◌∷◌, map, take, length, replicate, slice_index_or, Option, Some, None, IsSome, IfSome}
 use Rattle.std.specs.Option.{option_map}
+use Rattle.conda_base.specs.Bytes.{handed_out, stored, value_at}
 use Rattle.conda_base.specs.Lines.{IsLineSize, line_number}
 use Rattle.conda_base.specs.declared.Line.{Line}
 use Rattle.conda_base.specs.declared.Mesi.{Mesi}
@@ -57,10 +58,6 @@ bytes_of c l = content_bytes (content_of c l)
 abbrev pub line_at : Contents → ℕ → Line
 line_at c addr = record { 0 = line_number addr c.line_bytes }
 
--- a line's bytes in a buffer of 128, with zeros after them
-abbrev pub handed_out : List ℕ → List ℕ
-handed_out bytes = bytes ++ replicate (128 - length bytes) 0
-
 -- what is handed out of a line that leaves
 abbrev pub leaving : Line × Content → Line × Mesi × List ℕ
 leaving entry = (entry.0, entry.1.state, handed_out entry.1.bytes)
@@ -91,6 +88,24 @@ filled c l from state = (l, record { state = state; bytes = take c.line_bytes fr
 -- the list of a line's set with the line in another state, at its place
 abbrev pub restated : Contents → Line → Mesi → List (Line × Content)
 restated c l state = replaced l (record { state = state; bytes = bytes_of c l }) (set_list c l)
+
+-- the number of bytes of a line's content, where the line is held
+abbrev pub loaded : ℕ → ℕ → Option Content → Option ℕ
+loaded offset size None = None
+loaded offset size (Some content) = Some (value_at content.bytes offset size)
+
+-- the cache after a store to a line in M or E, by the line's content; else the same cache
+abbrev pub stored_from : Contents → Line → ℕ → ℕ → ℕ → List ℕ → Mesi → Contents
+stored_from c l offset size value bytes M = with_set c l (in_front c l (record { state = M; bytes = stored bytes offset size value }))
+stored_from c l offset size value bytes E = with_set c l (in_front c l (record { state = M; bytes = stored bytes offset size value }))
+stored_from c l offset size value bytes S = c
+
+abbrev pub stored_by : Contents → Line → ℕ → ℕ → ℕ → Option Content → Contents
+stored_by c l offset size value None = c
+stored_by c l offset size value (Some content) = stored_from c l offset size value content.bytes content.state
+
+abbrev pub stored_if_owned : Contents → Line → ℕ → ℕ → ℕ → Contents
+stored_if_owned c l offset size value = stored_by c l offset size value (content_of c l)
 
 -- the rules of every cache: lines stand in their sets, and each has as many bytes as a line has
 pub record IsCache (c : Contents) : Type 0 where

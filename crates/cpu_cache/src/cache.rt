@@ -2,41 +2,33 @@
 ghost use Rattle.std.specs.Prelude.{
   ◌≡◌,
   ◌+◌,
-  ◌*◌,
   ◌%◌,
   ◌<◌,
   ◌≤◌,
+  ◌-◌,
+  ◌*◌,
+  ◌++◌,
   [],
-  ◌∷◌,
   length,
-  map,
   replicate,
   take,
+  drop,
   slice_get,
+  slice_index_or,
   IfOk,
-  IsSome,
   Some,
   None,
-  ℕ,
-  slice_index,
-  slice_index_or,
-  ◌-◌,
-  ◌++◌,
-  drop,
 };
-ghost use Rattle.std.specs.Vec.{vec_capacity};
 ghost use Rattle.std.specs.Option.{option_map};
-ghost use Rattle.conda_base.specs.Bytes.{value_at, stored};
+ghost use Rattle.conda_base.specs.Bytes.{handed_out, value_at, stored};
 ghost use Rattle.conda_base.specs.Lines.{IsLineSize, IsAccessSize, line_offset};
 ghost use Rattle.conda_base.specs.declared.Mesi.TheVariants.{M, E, S};
 ghost use Rattle.set_assoc.specs.Entries.{touched, without};
-ghost use Rattle.set_assoc.specs.SetLists.{list_of, with_list};
-ghost use Rattle.cpu_cache.specs.Find.{find, taken_out};
-ghost use Rattle.cpu_cache.specs.Contents.{Contents, IsCache, IsHeld, bytes_in, bytes_of, content_of, empty, filled, handed_out, in_front, leaving, line_at, restated, set_list, state_of, tags_of, with_set, written_back};
+ghost use Rattle.cpu_cache.specs.Contents.{Contents, IsCache, IsHeld, bytes_in, bytes_of, content_of, empty, filled, in_front, leaving, line_at, loaded, restated, set_list, state_of, stored_if_owned, tags_of, with_set, written_back};
 
-use crate::held::Held;
+use crate::lines::{PLACES, front_in, held_at, slot_at};
 use conda_base::{Line, Mesi, line_of, offset_of, read_value, write_value};
-use set_assoc::Sets;
+use set_assoc::PlacedSets;
 use std::alloc::{AllocError, Global};
 use std::marker::Model;
 
@@ -47,16 +39,11 @@ const ROOM: usize = 128;
 #[derive(Drop)]
 pub struct CpuCache {
     line_bytes: u32,
-    sets: u32,
-    ways: u32,
-    lines: Sets<Held>,
-    free: Vec<u16>,
+    lines: PlacedSets<Mesi>,
     slots: Vec<[u8; 128]>,
 }
 
 impl Model for CpuCache {
-    ghost use Rattle.std.specs.Prelude.{◌≤◌, length};
-    ghost use Rattle.std.specs.Vec.{vec_capacity};
     ghost use Rattle.cpu_cache.specs.Contents.{Contents};
     ghost use Rattle.cpu_cache.specs.Slots.{contents_in, IsStore};
 
@@ -64,7 +51,7 @@ impl Model for CpuCache {
 
     ghost view = { λ c. contents_in c.line_bytes c.slots.items c.lines };
 
-    ghost invariant = { λ c. IsStore c.line_bytes c.sets c.ways c.lines c.free.items c.slots.items × (length c.slots.items ≤ vec_capacity c.free) };
+    ghost invariant = { λ c. IsStore c.line_bytes c.lines c.slots.items };
 }
 
 impl CpuCache {
@@ -77,16 +64,11 @@ impl CpuCache {
         requires few_ways { ways ≤ 8 }
         ensures { IfOk result (λ c. c ≡ empty line_bytes sets ways) }
     {
-        let total = (sets * ways) as u16;
-        let lines = Sets::new(alloc, sets, ways)?;
-        let slots = empty_slots(alloc, total)?;
-        let free = slots_below(alloc, total)?;
+        let lines = PlacedSets::new(alloc, sets, ways)?;
+        let slots = empty_slots(alloc, sets as usize * PLACES)?;
         Ok(CpuCache {
             line_bytes,
-            sets,
-            ways,
             lines,
-            free,
             slots,
         })
     }
@@ -96,7 +78,10 @@ impl CpuCache {
         ensures value { result ≡ state_of self.now l }
         ensures kept { IsCache self.now }
     {
-        self.lines.peek(l).map(|held| held.state)
+        match self.lines.find(l) {
+            Some(kept) => Some(kept.value),
+            None => None,
+        }
     }
 
     /// The line at this place of a set, with its state. None exactly where the set's list is not longer than `way`.
@@ -104,7 +89,7 @@ impl CpuCache {
         requires { set < length self.now.lines.lists }
         ensures { result ≡ slice_get (tags_of self.now set) way }
     {
-        self.lines.at(set, way).map(|(l, held)| (l, held.state))
+        self.lines.at(set, way).map(|(l, kept)| (l, kept.value))
     }
 
     /// Hands out the bytes of a held line, and zeros after them.
@@ -112,8 +97,8 @@ impl CpuCache {
         requires { IsHeld self.now l }
         ensures { out.new ≡ handed_out (bytes_of self.now l) }
     {
-        let held = held_at(&self.lines, l);
-        *out = self.slots[held.slot as usize];
+        let kept = held_at(&self.lines, l);
+        *out = self.slots[slot_at(&self.lines, l, kept.place)];
     }
 
     /// The little-endian number of 1, 2 or 4 bytes at an aligned address in a held line, which comes to the front.
@@ -121,42 +106,92 @@ impl CpuCache {
         requires size { IsAccessSize size }
         requires aligned { addr % size ≡ 0 }
         requires held { IsHeld self.old (line_at self.old addr) }
-        ensures value { result ≡ value_at (bytes_of self.old (line_at self.old addr)) (line_offset addr self.old.line_bytes) size }
-        ensures front { let l = line_at self.old addr in self.new ≡ with_set self.old l (touched l (set_list self.old l)) }
+        ensures value { let l = line_at self.old addr in
+            result ≡ value_at (bytes_of self.old l) (line_offset addr self.old.line_bytes) size }
+        ensures front { let l = line_at self.old addr in
+            self.new ≡ with_set self.old l (touched l (set_list self.old l)) }
+        ensures kept { IsCache self.new }
     {
-        let line_bytes = self.line_bytes;
-        self.load_at(line_of(addr, line_bytes), offset_of(addr, line_bytes), size)
+        self.load_held(addr, size).unwrap()
     }
 
-    /// Stores the low 1, 2 or 4 bytes of a number, the lowest first, at an aligned address in a held line, which comes to the front, modified.
+    /// Stores the low 1, 2 or 4 bytes of a number, the lowest first, at an aligned address in a held line, which comes
+    /// to the front, modified.
     pub fn store(&mut self, addr: u32, size: u8, value: u32)
         requires size { IsAccessSize size }
         requires aligned { addr % size ≡ 0 }
         requires held { IsHeld self.old (line_at self.old addr) }
-        ensures { let l = line_at self.old addr in
-            let bytes = stored (bytes_of self.old l) (line_offset addr self.old.line_bytes) size value in
-            self.new ≡ with_set self.old l (in_front self.old l (record { state = M; bytes = bytes })) }
+        ensures lines { let l = line_at self.old addr in
+            let offset = line_offset addr self.old.line_bytes in
+            let bytes = stored (bytes_of self.old l) offset size value in
+            self.new ≡ with_set self.old l
+            (in_front self.old l (record { state = M; bytes = bytes })) }
+        ensures kept { IsCache self.new }
     {
         let line_bytes = self.line_bytes;
-        self.store_at(
-            line_of(addr, line_bytes),
-            offset_of(addr, line_bytes),
-            size,
-            value,
-        );
+        let l = line_of(addr, line_bytes);
+        self.store_at(l, offset_of(addr, line_bytes), size, value);
     }
 
-    // The number at a place in a held line, which comes to the front.
-    fn load_at(&mut self, l: Line, offset: usize, size: u8) -> u32
+    /// The little-endian number of 1, 2 or 4 bytes at an aligned address in a held line, which comes to the front.
+    /// None, with nothing changed, exactly where the line isn't held.
+    pub fn load_held(&mut self, addr: u32, size: u8) -> Option<u32>
+        requires size { IsAccessSize size }
+        requires aligned { addr % size ≡ 0 }
+        ensures value { let l = line_at self.old addr in
+            result ≡ loaded (line_offset addr self.old.line_bytes) size (content_of self.old l) }
+        ensures front { let l = line_at self.old addr in
+            self.new ≡ with_set self.old l (touched l (set_list self.old l)) }
+        ensures kept { IsCache self.new }
+    {
+        let line_bytes = self.line_bytes;
+        let l = line_of(addr, line_bytes);
+        self.load_held_at(l, offset_of(addr, line_bytes), size)
+    }
+
+    /// Answers the state in which a line is held. Where that is modified or exclusive, stores the low 1, 2 or 4 bytes
+    /// of a number at an aligned address, and the line comes to the front, modified; else nothing changes.
+    pub fn store_owned(&mut self, addr: u32, size: u8, value: u32) -> Option<Mesi>
+        requires size { IsAccessSize size }
+        requires aligned { addr % size ≡ 0 }
+        ensures state { result ≡ state_of self.old (line_at self.old addr) }
+        ensures lines { let offset = line_offset addr self.old.line_bytes in
+            self.new ≡ stored_if_owned self.old (line_at self.old addr) offset size value }
+        ensures kept { IsCache self.new }
+    {
+        let line_bytes = self.line_bytes;
+        let l = line_of(addr, line_bytes);
+        self.store_owned_at(l, offset_of(addr, line_bytes), size, value)
+    }
+
+    /// Brings a held line to the front of its set, modified, with the bytes that it has.
+    pub fn own(&mut self, l: Line)
+        requires { IsHeld self.old l }
+        ensures lines { let bytes = bytes_of self.old l in
+            self.new ≡ with_set self.old l
+            (in_front self.old l (record { state = M; bytes = bytes })) }
+        ensures kept { IsCache self.new }
+    {
+        let kept = held_at(&self.lines, l);
+        front_in(&mut self.lines, l, kept.place, Mesi::M);
+    }
+
+    // The number at a place in a line that is held; the line comes to the front.
+    fn load_held_at(&mut self, l: Line, offset: usize, size: u8) -> Option<u32>
         requires size { IsAccessSize size }
         requires within { offset + size ≤ self.old.line_bytes }
-        requires held { IsHeld self.old l }
-        ensures value { result ≡ value_at (bytes_of self.old l) offset size }
+        ensures value { result ≡ loaded offset size (content_of self.old l) }
         ensures front { self.new ≡ with_set self.old l (touched l (set_list self.old l)) }
+        ensures kept { IsCache self.new }
     {
-        let held = take_out(&mut self.lines, l);
-        put_in(&mut self.lines, l, held);
-        read_value(&self.slots[held.slot as usize], offset, size)
+        match self.lines.find(l) {
+            Some(kept) => {
+                let slot = slot_at(&self.lines, l, kept.place);
+                self.lines.touch(l, kept.place);
+                Some(read_value(&self.slots[slot], offset, size))
+            }
+            None => None,
+        }
     }
 
     // Stores a number at a place in a held line, which comes to the front, modified.
@@ -164,50 +199,81 @@ impl CpuCache {
         requires size { IsAccessSize size }
         requires within { offset + size ≤ self.old.line_bytes }
         requires held { IsHeld self.old l }
-        ensures { let bytes = stored (bytes_of self.old l) offset size value in
-            self.new ≡ with_set self.old l (in_front self.old l (record { state = M; bytes = bytes })) }
+        ensures lines { let bytes = stored (bytes_of self.old l) offset size value in
+            self.new ≡ with_set self.old l
+            (in_front self.old l (record { state = M; bytes = bytes })) }
+        ensures kept { IsCache self.new }
     {
-        let held = take_out(&mut self.lines, l);
-        write_value(&mut self.slots[held.slot as usize], offset, size, value);
-        put_in(&mut self.lines, l, held.in_state(Mesi::M));
+        let kept = held_at(&self.lines, l);
+        let slot = slot_at(&self.lines, l, kept.place);
+        write_value(&mut self.slots[slot], offset, size, value);
+        front_in(&mut self.lines, l, kept.place, Mesi::M);
     }
 
-    /// Puts a line that isn't held in front of its set. Hands out the line that left, the last one, where the set was full.
+    // Stores a number at a place in a line that is held in M or E; the line comes to the front, modified.
+    fn store_owned_at(&mut self, l: Line, offset: usize, size: u8, value: u32) -> Option<Mesi>
+        requires size { IsAccessSize size }
+        requires within { offset + size ≤ self.old.line_bytes }
+        ensures state { result ≡ state_of self.old l }
+        ensures lines { self.new ≡ stored_if_owned self.old l offset size value }
+        ensures kept { IsCache self.new }
+    {
+        match self.lines.find(l) {
+            Some(kept) => {
+                match kept.value {
+                    Mesi::M | Mesi::E => {
+                        let slot = slot_at(&self.lines, l, kept.place);
+                        write_value(&mut self.slots[slot], offset, size, value);
+                        front_in(&mut self.lines, l, kept.place, Mesi::M);
+                    }
+                    Mesi::S => {}
+                }
+                Some(kept.value)
+            }
+            None => None,
+        }
+    }
+
+    /// Puts a line that isn't held in front of its set. Hands out the line that left, the last one, where the set was
+    /// full.
     pub fn fill(&mut self, l: Line, from: &[u8; 128], s: Mesi) -> Option<(Line, Mesi, [u8; 128])>
         requires { content_of self.old l ≡ None }
-        ensures left { result ≡ option_map leaving (slice_get (filled self.old l from.now s) self.old.lines.ways) }
-        ensures front { self.new ≡ with_set self.old l (take self.old.lines.ways (filled self.old l from.now s)) }
+        ensures left { let list = filled self.old l from.now s in
+            result ≡ option_map leaving (slice_get list self.old.lines.ways) }
+        ensures front { let list = filled self.old l from.now s in
+            self.new ≡ with_set self.old l (take self.old.lines.ways list) }
+        ensures kept { IsCache self.new }
     {
-        let left = self.make_room(l);
+        let left = self.last(l);
         self.put(l, from, s);
         left
     }
 
-    // Takes the last line of a full set out of it.
-    fn make_room(&mut self, l: Line) -> Option<(Line, Mesi, [u8; 128])>
-        ensures left { result ≡ option_map leaving (slice_get (set_list self.old l) (self.old.lines.ways - 1)) }
-        ensures rest { self.new ≡ with_set self.old l (take (self.old.lines.ways - 1) (set_list self.old l)) }
-        ensures kept { IsCache self.old }
+    // The last line of a full set, with its bytes.
+    fn last(&self, l: Line) -> Option<(Line, Mesi, [u8; 128])>
+        ensures last { let last = slice_get (set_list self.now l) (self.now.lines.ways - 1) in
+            result ≡ option_map leaving last }
+        ensures kept { IsCache self.now }
     {
-        let (line, held) = self.lines.at(l.0 % self.sets, self.ways - 1)?;
-        take_out(&mut self.lines, line);
-        self.free.push_reserved(held.slot);
-        Some((line, held.state, self.slots[held.slot as usize]))
+        match self.lines.last(l) {
+            Some((line, kept)) => {
+                let slot = slot_at(&self.lines, line, kept.place);
+                Some((line, kept.value, self.slots[slot]))
+            }
+            None => None,
+        }
     }
 
-    // Puts a line that isn't held in front of its set, which has room for it.
+    // Puts a line that isn't held in front of its set.
     fn put(&mut self, l: Line, from: &[u8; 128], s: Mesi)
-        requires absent { content_of self.old l ≡ None }
-        requires room { length (set_list self.old l) < self.old.lines.ways }
-        ensures { self.new ≡ with_set self.old l (filled self.old l from.now s) }
+        requires { content_of self.old l ≡ None }
+        ensures front { let list = filled self.old l from.now s in
+            self.new ≡ with_set self.old l (take self.old.lines.ways list) }
+        ensures kept { IsCache self.new }
     {
-        let slot = self.free.pop().unwrap();
-        copy_line(
-            &mut self.slots[slot as usize],
-            from,
-            self.line_bytes as usize,
-        );
-        put_in(&mut self.lines, l, Held { state: s, slot });
+        let place = self.lines.add(l, s);
+        let slot = slot_at(&self.lines, l, place);
+        copy_line(&mut self.slots[slot], from, self.line_bytes as usize);
     }
 
     /// Keeps a held line shared, at its place. Hands out its bytes where it was modified.
@@ -215,10 +281,12 @@ impl CpuCache {
         requires { IsHeld self.old l }
         ensures bytes { result ≡ written_back (content_of self.old l) }
         ensures shared { self.new ≡ with_set self.old l (restated self.old l S) }
+        ensures kept { IsCache self.new }
     {
-        let held = held_at(&self.lines, l);
-        self.lines.replace(l, held.in_state(Mesi::S));
-        bytes_to_write(&self.slots, held)
+        let kept = held_at(&self.lines, l);
+        let slot = slot_at(&self.lines, l, kept.place);
+        self.lines.replace(l, kept.place, Mesi::S);
+        bytes_to_write(&self.slots, slot, kept.value)
     }
 
     /// Drops a held line. Hands out its bytes where it was modified.
@@ -226,10 +294,12 @@ impl CpuCache {
         requires { IsHeld self.old l }
         ensures bytes { result ≡ written_back (content_of self.old l) }
         ensures dropped { self.new ≡ with_set self.old l (without l (set_list self.old l)) }
+        ensures kept { IsCache self.new }
     {
-        let held = take_out(&mut self.lines, l);
-        self.free.push_reserved(held.slot);
-        bytes_to_write(&self.slots, held)
+        let kept = held_at(&self.lines, l);
+        let slot = slot_at(&self.lines, l, kept.place);
+        self.lines.remove(l, kept.place);
+        bytes_to_write(&self.slots, slot, kept.value)
     }
 
     /// Keeps a modified line exclusive, at its place, and hands out its bytes.
@@ -237,10 +307,12 @@ impl CpuCache {
         requires { state_of self.old l ≡ Some M }
         ensures bytes { result ≡ handed_out (bytes_of self.old l) }
         ensures exclusive { self.new ≡ with_set self.old l (restated self.old l E) }
+        ensures kept { IsCache self.new }
     {
-        let held = held_at(&self.lines, l);
-        self.lines.replace(l, held.in_state(Mesi::E));
-        self.slots[held.slot as usize]
+        let kept = held_at(&self.lines, l);
+        let slot = slot_at(&self.lines, l, kept.place);
+        self.lines.replace(l, kept.place, Mesi::E);
+        self.slots[slot]
     }
 }
 
@@ -252,65 +324,26 @@ fn copy_line(slot: &mut [u8; 128], from: &[u8; 128], size: usize)
     slot[..size].copy_from_slice(&from[..size]);
 }
 
-// The bytes of a line that is modified.
-fn bytes_to_write(slots: &[[u8; 128]], held: Held) -> Option<[u8; 128]>
-    requires { held.slot < length slots.now }
-    ensures { result ≡ bytes_in held.state (slice_index_or slots.now held.slot []) }
+// The bytes of a slot, where its line is modified.
+fn bytes_to_write(slots: &[[u8; 128]], slot: usize, state: Mesi) -> Option<[u8; 128]>
+    requires { slot < length slots.now }
+    ensures { result ≡ bytes_in state (slice_index_or slots.now slot []) }
 {
-    match held.state {
-        Mesi::M => Some(slots[held.slot as usize]),
+    match state {
+        Mesi::M => Some(slots[slot]),
         Mesi::E | Mesi::S => None,
     }
 }
 
-// The slots 0 up to `total` - 1.
-fn slots_below(alloc: Global, total: u16) -> Result<Vec<u16>, AllocError>
-    ensures len { IfOk result (λ slots. length slots.items ≡ total) }
-    ensures items { IfOk result (λ slots. (i : ℕ) → i < total → slice_index slots.items i ≡ i) }
-    ensures capacity { IfOk result (λ slots. total ≤ vec_capacity slots) }
-{
-    let mut slots = Vec::with_capacity(alloc, total as usize)?;
-    for slot in 0..total {
-        slots.push(slot)?;
-    }
-    Ok(slots)
-}
-
-// As many slots, each with zeros.
-fn empty_slots(alloc: Global, total: u16) -> Result<Vec<[u8; 128]>, AllocError>
+// So many slots, each with zeros.
+fn empty_slots(alloc: Global, total: usize) -> Result<Vec<[u8; 128]>, AllocError>
     ensures { IfOk result (λ slots. slots.items ≡ replicate total (replicate 128 0)) }
 {
-    let mut slots = Vec::with_capacity(alloc, total as usize)?;
+    let mut slots = Vec::with_capacity(alloc, total)?;
     for _ in 0..total {
         slots.push([0; ROOM])?;
     }
     Ok(slots)
-}
-
-// What is kept of a held line.
-fn held_at(lines: &Sets<Held>, l: Line) -> Held
-    requires { IsSome (find lines.now l) }
-    ensures { find lines.now l ≡ Some result }
-{
-    lines.peek(l).unwrap()
-}
-
-// Takes a held line out of its set.
-fn take_out(lines: &mut Sets<Held>, l: Line) -> Held
-    requires { IsSome (find lines.old l) }
-    ensures held { find lines.old l ≡ Some result }
-    ensures lines { lines.new ≡ taken_out lines.old l }
-{
-    lines.remove(l).unwrap()
-}
-
-// Puts a line in front of its set, which has room for it.
-fn put_in(lines: &mut Sets<Held>, l: Line, held: Held)
-    requires absent { find lines.old l ≡ None }
-    requires room { length (list_of lines.old l) < lines.old.ways }
-    ensures { lines.new ≡ with_list lines.old l ((l, held) ∷ list_of lines.old l) }
-{
-    lines.add(l, held);
 }
 
 #[cfg(test)]
@@ -355,6 +388,21 @@ mod tests {
         cache.bytes(Line(0), &mut out);
         assert_eq!(rt; out[63], 7);
         assert!(rt; cache.invalidate(Line(0)).is_none());
+        Ok(())
+    }
+
+    #[test]
+    fn a_shared_line_is_owned_before_a_store(rt: HostRuntime) -> Result<(), AllocError> {
+        let mut cache = CpuCache::new(rt.alloc(), 128, 4, 8)?;
+        assert!(rt; cache.state(Line(2)).is_none());
+        cache.fill(Line(2), &[7; 128], Mesi::S);
+        assert_eq!(rt; cache.store_owned(256, 4, 9), Some(Mesi::S));
+        assert_eq!(rt; cache.load_held(256, 4), Some(0x0707_0707));
+        assert!(rt; cache.state(Line(2)).is_some());
+        cache.own(Line(2));
+        assert_eq!(rt; cache.store_owned(256, 4, 9), Some(Mesi::M));
+        assert_eq!(rt; cache.load_held(256, 4), Some(9));
+        assert_eq!(rt; cache.load_held(512, 4), None);
         Ok(())
     }
 

@@ -1,8 +1,8 @@
 //! Prints each form of instruction as a word and as the text that an assembler takes for it.
 #![tactic(auto)]
 
-mod assembly;
 mod rows;
+mod text;
 
 use rows::show_all;
 use std::io;

@@ -3,72 +3,65 @@
 ghost use Rattle.std.specs.Prelude.{◌<◌};
 ghost use Rattle.rv32_decode.specs.Ranges.{FieldsFit, ImmFits, IsOffset, IsSigned, IsUpper};
 
-use crate::assembly::Assembly;
+use crate::text::Text;
 use rv32_decode::{AmoOp, BranchOp, ImmOp, Instr, LoadOp, RegOp, StoreOp, decode, encode};
+use rv32_dis::{Line, instr_text};
 use std::io;
 
-const BRANCHES: [(BranchOp, &str); 6] = [
-    (BranchOp::Beq, "beq"),
-    (BranchOp::Bne, "bne"),
-    (BranchOp::Blt, "blt"),
-    (BranchOp::Bge, "bge"),
-    (BranchOp::Bltu, "bltu"),
-    (BranchOp::Bgeu, "bgeu"),
+const BRANCHES: [BranchOp; 6] = [
+    BranchOp::Beq,
+    BranchOp::Bne,
+    BranchOp::Blt,
+    BranchOp::Bge,
+    BranchOp::Bltu,
+    BranchOp::Bgeu,
 ];
 
-const LOADS: [(LoadOp, &str); 5] = [
-    (LoadOp::Lb, "lb"),
-    (LoadOp::Lh, "lh"),
-    (LoadOp::Lw, "lw"),
-    (LoadOp::Lbu, "lbu"),
-    (LoadOp::Lhu, "lhu"),
+const LOADS: [LoadOp; 5] = [LoadOp::Lb, LoadOp::Lh, LoadOp::Lw, LoadOp::Lbu, LoadOp::Lhu];
+
+const STORES: [StoreOp; 3] = [StoreOp::Sb, StoreOp::Sh, StoreOp::Sw];
+
+const OPERATIONS: [RegOp; 18] = [
+    RegOp::Add,
+    RegOp::Sub,
+    RegOp::Sll,
+    RegOp::Slt,
+    RegOp::Sltu,
+    RegOp::Xor,
+    RegOp::Srl,
+    RegOp::Sra,
+    RegOp::Or,
+    RegOp::And,
+    RegOp::Mul,
+    RegOp::Mulh,
+    RegOp::Mulhsu,
+    RegOp::Mulhu,
+    RegOp::Div,
+    RegOp::Divu,
+    RegOp::Rem,
+    RegOp::Remu,
 ];
 
-const STORES: [(StoreOp, &str); 3] = [
-    (StoreOp::Sb, "sb"),
-    (StoreOp::Sh, "sh"),
-    (StoreOp::Sw, "sw"),
-];
-
-const OPERATIONS: [(RegOp, &str); 18] = [
-    (RegOp::Add, "add"),
-    (RegOp::Sub, "sub"),
-    (RegOp::Sll, "sll"),
-    (RegOp::Slt, "slt"),
-    (RegOp::Sltu, "sltu"),
-    (RegOp::Xor, "xor"),
-    (RegOp::Srl, "srl"),
-    (RegOp::Sra, "sra"),
-    (RegOp::Or, "or"),
-    (RegOp::And, "and"),
-    (RegOp::Mul, "mul"),
-    (RegOp::Mulh, "mulh"),
-    (RegOp::Mulhsu, "mulhsu"),
-    (RegOp::Mulhu, "mulhu"),
-    (RegOp::Div, "div"),
-    (RegOp::Divu, "divu"),
-    (RegOp::Rem, "rem"),
-    (RegOp::Remu, "remu"),
-];
-
-const ATOMICS: [(AmoOp, &str); 9] = [
-    (AmoOp::Amoadd, "amoadd.w"),
-    (AmoOp::Amoswap, "amoswap.w"),
-    (AmoOp::Amoxor, "amoxor.w"),
-    (AmoOp::Amoor, "amoor.w"),
-    (AmoOp::Amoand, "amoand.w"),
-    (AmoOp::Amomin, "amomin.w"),
-    (AmoOp::Amomax, "amomax.w"),
-    (AmoOp::Amominu, "amominu.w"),
-    (AmoOp::Amomaxu, "amomaxu.w"),
+const ATOMICS: [AmoOp; 9] = [
+    AmoOp::Amoadd,
+    AmoOp::Amoswap,
+    AmoOp::Amoxor,
+    AmoOp::Amoor,
+    AmoOp::Amoand,
+    AmoOp::Amomin,
+    AmoOp::Amomax,
+    AmoOp::Amominu,
+    AmoOp::Amomaxu,
 ];
 
 // A line: the word, the text, and whether the word is read as another instruction.
-fn show(rt: &impl Print, name: &'static str, instr: Instr) -> io::Result<()>
+fn show(rt: &impl Print, instr: Instr) -> io::Result<()>
     requires { FieldsFit instr }
 {
     let word = encode(instr);
-    let text = Assembly { name, instr };
+    let mut line = Line::new();
+    instr_text(instr, &mut line);
+    let text = Text(line);
     if decode(word) == Some(instr) {
         println!(rt; "{word:08x} {text}")
     } else {
@@ -98,17 +91,17 @@ pub fn show_all(rt: &impl Print) -> io::Result<()> {
     show_registers(rt, 0, 31, 5)?;
     show_registers(rt, 5, 0, 31)?;
     show_registers(rt, 31, 5, 0)?;
-    show(rt, "fence", Instr::Fence)?;
-    show(rt, "ecall", Instr::Ecall)?;
-    show(rt, "ebreak", Instr::Ebreak)
+    show(rt, Instr::Fence)?;
+    show(rt, Instr::Ecall)?;
+    show(rt, Instr::Ebreak)
 }
 
 fn show_upper(rt: &impl Print, rd: u8, imm: u32) -> io::Result<()>
     requires rd { rd < 32 }
     requires imm { IsUpper imm }
 {
-    show(rt, "lui", Instr::Lui { rd, imm })?;
-    show(rt, "auipc", Instr::Auipc { rd, imm })
+    show(rt, Instr::Lui { rd, imm })?;
+    show(rt, Instr::Auipc { rd, imm })
 }
 
 fn show_jumps(rt: &impl Print, rd: u8, rs1: u8, offset: u32, imm: u32) -> io::Result<()>
@@ -117,8 +110,8 @@ fn show_jumps(rt: &impl Print, rd: u8, rs1: u8, offset: u32, imm: u32) -> io::Re
     requires offset { IsOffset 1048576 offset }
     requires imm { IsSigned 2048 imm }
 {
-    show(rt, "jal", Instr::Jal { rd, imm: offset })?;
-    show(rt, "jalr", Instr::Jalr { rd, rs1, imm })
+    show(rt, Instr::Jal { rd, imm: offset })?;
+    show(rt, Instr::Jalr { rd, rs1, imm })
 }
 
 fn show_branches(rt: &impl Print, rs1: u8, rs2: u8, imm: u32) -> io::Result<()>
@@ -126,8 +119,8 @@ fn show_branches(rt: &impl Print, rs1: u8, rs2: u8, imm: u32) -> io::Result<()>
     requires rs2 { rs2 < 32 }
     requires imm { IsOffset 4096 imm }
 {
-    for (op, name) in BRANCHES {
-        show(rt, name, Instr::Branch { op, rs1, rs2, imm })?;
+    for op in BRANCHES {
+        show(rt, Instr::Branch { op, rs1, rs2, imm })?;
     }
     Ok(())
 }
@@ -137,10 +130,9 @@ fn show_accesses(rt: &impl Print, value: u8, rs1: u8, imm: u32) -> io::Result<()
     requires rs1 { rs1 < 32 }
     requires imm { IsSigned 2048 imm }
 {
-    for (op, name) in LOADS {
+    for op in LOADS {
         show(
             rt,
-            name,
             Instr::Load {
                 op,
                 rd: value,
@@ -149,10 +141,9 @@ fn show_accesses(rt: &impl Print, value: u8, rs1: u8, imm: u32) -> io::Result<()
             },
         )?;
     }
-    for (op, name) in STORES {
+    for op in STORES {
         show(
             rt,
-            name,
             Instr::Store {
                 op,
                 rs1,
@@ -165,52 +156,45 @@ fn show_accesses(rt: &impl Print, value: u8, rs1: u8, imm: u32) -> io::Result<()
 }
 
 fn show_immediates(rt: &impl Print) -> io::Result<()> {
-    show_signed(rt, "addi", ImmOp::Addi)?;
-    show_signed(rt, "slti", ImmOp::Slti)?;
-    show_signed(rt, "sltiu", ImmOp::Sltiu)?;
-    show_signed(rt, "xori", ImmOp::Xori)?;
-    show_signed(rt, "ori", ImmOp::Ori)?;
-    show_signed(rt, "andi", ImmOp::Andi)?;
-    show_shift(rt, "slli", ImmOp::Slli)?;
-    show_shift(rt, "srli", ImmOp::Srli)?;
-    show_shift(rt, "srai", ImmOp::Srai)
+    show_signed(rt, ImmOp::Addi)?;
+    show_signed(rt, ImmOp::Slti)?;
+    show_signed(rt, ImmOp::Sltiu)?;
+    show_signed(rt, ImmOp::Xori)?;
+    show_signed(rt, ImmOp::Ori)?;
+    show_signed(rt, ImmOp::Andi)?;
+    show_shift(rt, ImmOp::Slli)?;
+    show_shift(rt, ImmOp::Srli)?;
+    show_shift(rt, ImmOp::Srai)
 }
 
 // An operation that takes a signed immediate.
-fn show_signed(rt: &impl Print, name: &'static str, op: ImmOp) -> io::Result<()>
+fn show_signed(rt: &impl Print, op: ImmOp) -> io::Result<()>
     requires least { ImmFits op 0xfffff800 }
     requires zero { ImmFits op 0 }
     requires greatest { ImmFits op 0x7ff }
 {
-    show_imm(rt, name, op, 0, 31, 0)?;
-    show_imm(rt, name, op, 5, 0, 0x7ff)?;
-    show_imm(rt, name, op, 31, 5, 0xffff_f800)
+    show_imm(rt, op, 0, 31, 0)?;
+    show_imm(rt, op, 5, 0, 0x7ff)?;
+    show_imm(rt, op, 31, 5, 0xffff_f800)
 }
 
 // An operation that takes a distance.
-fn show_shift(rt: &impl Print, name: &'static str, op: ImmOp) -> io::Result<()>
+fn show_shift(rt: &impl Print, op: ImmOp) -> io::Result<()>
     requires least { ImmFits op 0 }
     requires middle { ImmFits op 16 }
     requires greatest { ImmFits op 31 }
 {
-    show_imm(rt, name, op, 0, 31, 0)?;
-    show_imm(rt, name, op, 5, 0, 16)?;
-    show_imm(rt, name, op, 31, 5, 31)
+    show_imm(rt, op, 0, 31, 0)?;
+    show_imm(rt, op, 5, 0, 16)?;
+    show_imm(rt, op, 31, 5, 31)
 }
 
-fn show_imm(
-    rt: &impl Print,
-    name: &'static str,
-    op: ImmOp,
-    rd: u8,
-    rs1: u8,
-    imm: u32,
-) -> io::Result<()>
+fn show_imm(rt: &impl Print, op: ImmOp, rd: u8, rs1: u8, imm: u32) -> io::Result<()>
     requires rd { rd < 32 }
     requires rs1 { rs1 < 32 }
     requires imm { ImmFits op imm }
 {
-    show(rt, name, Instr::Imm { op, rd, rs1, imm })
+    show(rt, Instr::Imm { op, rd, rs1, imm })
 }
 
 fn show_registers(rt: &impl Print, rd: u8, rs1: u8, rs2: u8) -> io::Result<()>
@@ -218,23 +202,16 @@ fn show_registers(rt: &impl Print, rd: u8, rs1: u8, rs2: u8) -> io::Result<()>
     requires rs1 { rs1 < 32 }
     requires rs2 { rs2 < 32 }
 {
-    for (op, name) in OPERATIONS {
-        show(rt, name, Instr::Reg { op, rd, rs1, rs2 })?;
+    for op in OPERATIONS {
+        show(rt, Instr::Reg { op, rd, rs1, rs2 })?;
     }
-    for (op, name) in ATOMICS {
-        show_atomic(rt, name, op, rd, rs1, rs2)?;
+    for op in ATOMICS {
+        show_atomic(rt, op, rd, rs1, rs2)?;
     }
     Ok(())
 }
 
-fn show_atomic(
-    rt: &impl Print,
-    name: &'static str,
-    op: AmoOp,
-    rd: u8,
-    rs1: u8,
-    rs2: u8,
-) -> io::Result<()>
+fn show_atomic(rt: &impl Print, op: AmoOp, rd: u8, rs1: u8, rs2: u8) -> io::Result<()>
     requires rd { rd < 32 }
     requires rs1 { rs1 < 32 }
     requires rs2 { rs2 < 32 }
@@ -242,7 +219,6 @@ fn show_atomic(
     for (aq, rl) in [(false, false), (true, false), (false, true), (true, true)] {
         show(
             rt,
-            name,
             Instr::Amo {
                 op,
                 aq,

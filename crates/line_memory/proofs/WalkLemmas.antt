@@ -10,7 +10,7 @@ use Rattle.conda_base.specs.declared.Line.{Line}
 use Rattle.conda_base.specs.declared.Mesi.{Mesi}
 use Rattle.conda_base.specs.declared.Mesi.TheVariants.{M, E, S}
 use Rattle.line_memory.specs.Tags.{Tag, is_modified, cleaned_state, cleaned_line, modified, each_below}
-use Rattle.line_memory.specs.Backing.{BackingView, IsBacking, IsFirstDirty, place_of, modified_from, dirty_from, dirty_lines, flushed}
+use Rattle.line_memory.specs.Backing.{BackingView, IsBacking, IsFirstDirty, place_of, modified_from, dirty_from, dirty_in, flushed}
 
 test_by_apart : (a b : ℕ) → a ≢ b → eqb a b ≡ false
 test_by_apart a b apart = ⊎_elim (λ on. absurd (apart (eqb-true a b on))) (λ off. off) (cases_Bool (eqb a b))
@@ -21,7 +21,7 @@ each_same zero f g same = refl
 each_same (suc n) f g same =
     ap (λ xs. xs ++ f n) (each_same n f g (λ k below. same k (omega arith))) ∙ ap (λ ys. each_below n g ++ ys) (same n (omega arith))
 
-each_empty : {A : Type 0} (n : ℕ) (f : ℕ → List A) → ((k : ℕ) → k < n → f k ≡ []) → each_below n f ≡ []
+pub each_empty : {A : Type 0} (n : ℕ) (f : ℕ → List A) → ((k : ℕ) → k < n → f k ≡ []) → each_below n f ≡ []
 each_empty zero f none = refl
 each_empty (suc n) f none =
     ap (λ xs. xs ++ f n) (each_empty n f (λ k below. none k (omega arith))) ∙ none n (omega arith)
@@ -94,7 +94,7 @@ modified_from-step place (suc way) (tag ∷ tags) =
     rw (here, after) (subst P (sym next) (modified_from-step (place + 1) way tags))
 
 -- the dirty lines at or after the first place are all
-pub dirty_from-zero : (b : BackingView) → dirty_from b 0 ≡ dirty_lines b
+pub dirty_from-zero : (b : BackingView) → dirty_from b 0 ≡ dirty_in b
 dirty_from-zero b =
     each_same b.holders _ _
     (λ holder inside. each_same b.sets _ _ (λ set below. modified_from-all 0 (place_of b holder set 0) (b.tags holder set) (omega arith)))
@@ -158,8 +158,8 @@ dirty_from-flushed b l from =
     sym (each_filter (is_other l) b.sets (λ set. modified_from from (place_of b holder set 0) (b.tags holder set)))) ∙
     sym (each_filter (is_other l) b.holders (λ holder. each_below b.sets (λ set. modified_from from (place_of b holder set 0) (b.tags holder set))))
 
-pub dirty_lines-flushed : (b : BackingView) (l : Line) → dirty_lines (flushed b l) ≡ filter (is_other l) (dirty_lines b)
-dirty_lines-flushed b l =
+pub dirty_in-flushed : (b : BackingView) (l : Line) → dirty_in (flushed b l) ≡ filter (is_other l) (dirty_in b)
+dirty_in-flushed b l =
     sym (dirty_from-zero (flushed b l)) ∙ dirty_from-flushed b l 0 ∙ ap (λ ls. filter (is_other l) ls) (dirty_from-zero b)
 
 -- it is this line
@@ -187,7 +187,7 @@ count-modified_from l from place (tag ∷ tags) =
     (cases_Bool (leb from place)))
     (cases_Bool (is_modified tag.1))
 
-count-dirty_from : (b : BackingView) (l : Line) (from : ℕ) → count_by (is_this l) (dirty_from b from) ≤ count_by (is_this l) (dirty_lines b)
+count-dirty_from : (b : BackingView) (l : Line) (from : ℕ) → count_by (is_this l) (dirty_from b from) ≤ count_by (is_this l) (dirty_in b)
 count-dirty_from b l from =
     each_count (is_this l) b.holders _ _
     (λ holder inside. each_count (is_this l) b.sets _ _ (λ set below. count-modified_from l from (place_of b holder set 0) (b.tags holder set)))
@@ -229,7 +229,7 @@ filter_none l (x ∷ ls) none =
 -- after a flush of the first dirty line the walk goes on as before
 pub dirty_after_flush : (b : BackingView) (from place : ℕ) (l : Line) → IsBacking b → IsFirstDirty b from place l → dirty_from (flushed b l) (place + 1) ≡ dirty_from b (place + 1)
 dirty_after_flush b from place l is first =
-    let all = count_once l (dirty_lines b) is.single in
+    let all = count_once l (dirty_in b) is.single in
     let some = count-dirty_from b l place in
     let split : count_by (is_this l) (dirty_from b place) ≡ cond (is_this l l) 1 0 + count_by (is_this l) (dirty_from b (place + 1)) =
     ap (λ ls. count_by (is_this l) ls) first.first ∙ count-cons l l (dirty_from b (place + 1)) in

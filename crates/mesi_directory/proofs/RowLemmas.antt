@@ -1,16 +1,17 @@
 -- A holder's bit in a row, and one line's row in a directory.
-use Rattle.std.proofs.Common.{◌≡◌, ◌≢◌, ℕ, false, suc, zero, ◌-◌, ◌*◌, ◌%◌, ◌^◌, ◌<◌, ◌≤◌, ◌⊎◌, ⊎_elim, eqb, IsTrue, sym, ◌∙◌, ap, refl, inl, inr, arith}
+use Rattle.std.proofs.Common.{◌≡◌, ◌≢◌, ℕ, false, suc, zero, ◌-◌, ◌*◌, ◌%◌, ◌^◌, ◌<◌, ◌≤◌, ◌⊎◌, ⊎_elim, eqb, IsTrue, sym, ◌∙◌, ap, refl, inl, inr, arith, List, [], ◌∷◌, length, get_or, set, replicate}
 use Rattle.std.specs.Prelude.{bit_or, bit_xor, ◌||◌, ◌&&◌, ◌==◌, not}
 use Rattle.std.specs.Int.{bit_at}
 use Rattle.std.proofs.lemmas.Nat.{pow_below, pow_pos, or_lt, xor_lt, one_shl}
 use Rattle.std.proofs.lemmas.Nat.Bits.{bit_at_or, bit_at_xor, bit_at-lt, bit_at-zero, bit_at-pow_same, bit_at-pow_other, bit_at_above}
 use Rattle.std.proofs.lemmas.Bool.{cases_eq, cases_lt, cases_Bool, eqb-true}
 use Rattle.std.proofs.lemmas.Bool.Decides.{nat_tests}
-use Rattle.std.proofs.lemmas.List.{get_or-set_same, get_or-set_other}
+use Rattle.std.proofs.lemmas.List.{get_or-set_same, get_or-set_other, map-set, length-map}
+use Rattle.std.proofs.lemmas.List.{get_or-map as get_or-map_within}
 use Rattle.conda_base.specs.declared.Line.{Line}
 use Rattle.mesi_directory.specs.declared.row.Row.{Row}
 use Rattle.mesi_directory.specs.declared.row.Row.TheVariants.{Nobody, Owner, Shared}
-use Rattle.mesi_directory.specs.Rows.{Rows, IsIn, row_of, with_row, holder_bits, has, IsRow, shared_with, sharers, without}
+use Rattle.mesi_directory.specs.Rows.{Rows, IsIn, row_of, with_row, holder_bits, has, IsRow, shared_with, sharers, without, AreRows, unpacked, unpacked_rows}
 
 -- the bit of one holder, at each place
 bit_at_pow : (h k : ℕ) → ((k ≡ h) × (bit_at (2 ^ h) k ≡ 1)) ⊎ ((k ≢ h) × (bit_at (2 ^ h) k ≡ 0))
@@ -104,6 +105,28 @@ pub row_of-with_row_other : (d : Rows) (l m : Line) (row : Row) → IsIn d l →
 row_of-with_row_other d l m row is there apart =
     get_or-set_other d.rows (l.0 - d.first) (m.0 - d.first) row Nobody (λ same. apart (omega (arith, is.from, there.from, same)))
 
--- the owner alone holds the line
-pub has-row_of_owner : (d : Rows) (l : Line) (h : ℕ) → row_of d l ≡ Owner h → (k : ℕ) → has (row_of d l) k ≡ (k == h)
-has-row_of_owner d l h is k = ap (λ row. has row k) is ∙ has-owner h k
+-- rows as numbers
+pub row_at : (numbers : List ℕ) (k : ℕ) → k < length numbers → get_or (unpacked_rows numbers) k Nobody ≡ unpacked (get_or numbers k 0)
+row_at numbers k within = get_or-map_within unpacked numbers k 0 Nobody within
+
+pub rows_set : (numbers : List ℕ) (k n : ℕ) (row : Row) → unpacked n ≡ row → unpacked_rows (set numbers k n) ≡ set (unpacked_rows numbers) k row
+rows_set numbers k n row is = map-set unpacked numbers k n ∙ ap (λ r. set (unpacked_rows numbers) k r) is
+
+pub rows_none : (n : ℕ) → unpacked_rows (replicate n 0) ≡ replicate n Nobody
+rows_none zero = refl
+rows_none (suc n) = ap (λ rows. Nobody ∷ rows) (rows_none n)
+
+pub AreRows-set : (rows : List Row) (k : ℕ) (row : Row) → AreRows rows → IsRow row → AreRows (set rows k row)
+AreRows-set [] k row are is i = are i
+AreRows-set (x ∷ rows) zero row are is zero = is
+AreRows-set (x ∷ rows) zero row are is (suc i) = are (suc i)
+AreRows-set (x ∷ rows) (suc k) row are is zero = are 0
+AreRows-set (x ∷ rows) (suc k) row are is (suc i) = AreRows-set rows k row (λ j. are (suc j)) is i
+
+pub AreRows-none : (n : ℕ) → AreRows (replicate n Nobody)
+AreRows-none zero i = tt
+AreRows-none (suc n) zero = tt
+AreRows-none (suc n) (suc i) = AreRows-none n i
+
+pub length-rows : (numbers : List ℕ) → length (unpacked_rows numbers) ≡ length numbers
+length-rows numbers = length-map numbers unpacked

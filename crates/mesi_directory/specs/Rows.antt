@@ -1,5 +1,5 @@
 -- Which holders each line has.
-use Rattle.std.specs.Prelude.{ℕ, Bool, ◌+◌, ◌-◌, ◌^◌, ◌<◌, ◌≤◌, ◌==◌, List, length, slice_index_or, slice_set, if◌then◌else◌, bit_or, bit_xor}
+use Rattle.std.specs.Prelude.{ℕ, Bool, ◌+◌, ◌-◌, ◌^◌, ◌<◌, ◌≤◌, ◌==◌, List, length, slice_index_or, slice_set, map, nat_lt, if◌then◌else◌, bit_or, bit_xor}
 use Rattle.std.specs.Int.{bit_at}
 use Rattle.conda_base.specs.declared.Line.{Line}
 use Rattle.mesi_directory.specs.declared.row.Row.{Row}
@@ -54,3 +54,11 @@ row_of d l = slice_index_or d.rows (l.0 - d.first) Nobody
 -- another row for a line; every other line keeps its row
 abbrev pub with_row : Rows → Line → Row → Rows
 with_row d l row = record { first = d.first; rows = slice_set d.rows (l.0 - d.first) row }
+
+-- the row that a number stands for: 0 is Nobody, 1 + h is Owner h, 65536 plus a mask is Shared
+abbrev pub unpacked : ℕ → Row
+unpacked n = if n == 0 then Nobody else (if nat_lt n 65536 then Owner (n - 1) else Shared (n - 65536))
+
+-- the rows that numbers stand for
+abbrev pub unpacked_rows : List ℕ → List Row
+unpacked_rows numbers = map unpacked numbers

@@ -1,6 +1,6 @@
 // Which hart caches hold each line.
-ghost use Rattle.std.specs.Prelude.{ℕ, ◌≡◌, ◌+◌, ◌-◌, ◌<◌, ◌≤◌, ◌==◌, ◌||◌, ◌&&◌, not, IsTrue, IfOk, length, replicate};
-ghost use Rattle.mesi_directory.specs.Rows.{Rows, IsRow, AreRows, IsIn, row_of, with_row, has, shared_with, without};
+ghost use Rattle.std.specs.Prelude.{ℕ, ◌≡◌, ◌+◌, ◌-◌, ◌<◌, ◌≤◌, ◌==◌, ◌||◌, ◌&&◌, not, IsTrue, IfOk, length, replicate, slice_index_or, slice_set};
+ghost use Rattle.mesi_directory.specs.Rows.{Rows, IsRow, AreRows, IsIn, row_of, with_row, has, shared_with, unpacked_rows, without};
 ghost use Rattle.mesi_directory.specs.declared.row.Row.TheVariants.{Nobody, Owner};
 
 use crate::Row;
@@ -13,17 +13,17 @@ use std::marker::Model;
 #[derive(Drop)]
 pub struct Directory {
     first: Line,
-    rows: Vec<Row>,
+    rows: Vec<u32>,
 }
 
 impl Model for Directory {
-    ghost use Rattle.mesi_directory.specs.Rows.{Rows, AreRows};
+    ghost use Rattle.mesi_directory.specs.Rows.{Rows, AreRows, unpacked_rows};
 
     ghost Value = { Rows };
 
-    ghost view = { λ d. record { first = d.first.0; rows = d.rows.items } };
+    ghost view = { λ d. record { first = d.first.0; rows = unpacked_rows d.rows.items } };
 
-    ghost invariant = { λ d. AreRows d.rows.items };
+    ghost invariant = { λ d. AreRows (unpacked_rows d.rows.items) };
 }
 
 impl Directory {
@@ -31,7 +31,7 @@ impl Directory {
     pub fn new(alloc: Global, first: Line, count: u32) -> Result<Directory, AllocError>
         ensures { IfOk result (λ d. d ≡ record { first = first.0; rows = replicate count Nobody }) }
     {
-        let rows = vec![in alloc; Row::Nobody; count as usize]?;
+        let rows = vec![in alloc; 0u32; count as usize]?;
         Ok(Directory { first, rows })
     }
 
@@ -49,7 +49,7 @@ impl Directory {
         ensures value { result ≡ row_of self.now l }
         ensures valid { IsRow result }
     {
-        self.rows[self.place(l)]
+        row_in(&self.rows, self.place(l))
     }
 
     /// Makes `h` the owner of a line, and its only holder.
@@ -59,9 +59,10 @@ impl Directory {
         ensures row { row_of self.new l ≡ Owner h }
         ensures holders { (k : ℕ) → has (row_of self.new l) k ≡ (k == h) }
         ensures others { self.new ≡ with_row self.old l (Owner h) }
+        ensures kept { AreRows self.new.rows }
     {
         let place = self.place(l);
-        self.rows[place] = Row::Owner(h);
+        put_row(&mut self.rows, place, Row::Owner(h));
     }
 
     /// Adds `h` to the holders of a line. All of them share it from then on, also one that owned it.
@@ -69,11 +70,14 @@ impl Directory {
         requires line { IsIn self.old l }
         requires holder { h < 12 }
         ensures row { row_of self.new l ≡ shared_with (row_of self.old l) h }
-        ensures holders { (k : ℕ) → has (row_of self.new l) k ≡ (has (row_of self.old l) k || k == h) }
+        ensures holders { (k : ℕ) →
+            has (row_of self.new l) k ≡ (has (row_of self.old l) k || k == h) }
         ensures others { self.new ≡ with_row self.old l (shared_with (row_of self.old l) h) }
+        ensures kept { AreRows self.new.rows }
     {
         let place = self.place(l);
-        self.rows[place] = self.rows[place].shared_with(h);
+        let row = row_in(&self.rows, place).shared_with(h);
+        put_row(&mut self.rows, place, row);
     }
 
     /// Takes `h`, a holder of a line, out of its holders. Those that are left share it.
@@ -81,12 +85,34 @@ impl Directory {
         requires line { IsIn self.old l }
         requires held { IsTrue (has (row_of self.old l) h) }
         ensures row { row_of self.new l ≡ without (row_of self.old l) h }
-        ensures holders { (k : ℕ) → has (row_of self.new l) k ≡ (has (row_of self.old l) k && not (k == h)) }
+        ensures holders { (k : ℕ) →
+            has (row_of self.new l) k ≡ (has (row_of self.old l) k && not (k == h)) }
         ensures others { self.new ≡ with_row self.old l (without (row_of self.old l) h) }
+        ensures kept { AreRows self.new.rows }
     {
         let place = self.place(l);
-        self.rows[place] = self.rows[place].without(h);
+        let row = row_in(&self.rows, place).without(h);
+        put_row(&mut self.rows, place, row);
     }
+}
+
+// The row at a place.
+fn row_in(rows: &Vec<u32>, place: usize) -> Row
+    requires within { place < length rows.now.items }
+    requires valid { AreRows (unpacked_rows rows.now.items) }
+    ensures value { result ≡ slice_index_or (unpacked_rows rows.now.items) place Nobody }
+    ensures valid { IsRow result }
+{
+    Row::unpacked(rows[place])
+}
+
+// Puts a row at a place.
+fn put_row(rows: &mut Vec<u32>, place: usize, row: Row)
+    requires within { place < length rows.old.items }
+    requires valid { IsRow row }
+    ensures { unpacked_rows rows.new.items ≡ slice_set (unpacked_rows rows.old.items) place row }
+{
+    rows[place] = row.packed();
 }
 
 #[cfg(test)]
@@ -100,6 +126,8 @@ mod tests {
         assert_eq!(rt; directory.row(Line(17)), Row::Owner(2));
         directory.share(Line(17), 11);
         assert_eq!(rt; directory.row(Line(17)), Row::Shared(0b1000_0000_0100));
+        assert!(rt; directory.row(Line(17)).has(11));
+        assert!(rt; !directory.row(Line(17)).has(10));
         assert_eq!(rt; directory.row(Line(16)), Row::Nobody);
         assert_eq!(rt; directory.row(Line(18)), Row::Nobody);
         Ok(())

@@ -28,9 +28,10 @@ ghost use Rattle.conda_base.specs.Bytes.{value_at};
 ghost use Rattle.conda_base.specs.Lines.{IsLineSize, IsAccessSize, line_offset};
 ghost use Rattle.conda_base.specs.Marks.{mixed};
 ghost use Rattle.write_masks.specs.Marks.{Covers};
+ghost use Rattle.nda_cache.specs.Looks.{LooksIn};
 ghost use Rattle.set_assoc.specs.SetLists.{list_of, with_list};
 ghost use Rattle.nda_cache.specs.Index.{find};
-ghost use Rattle.nda_cache.specs.Tried.{HasRoom, IsTried, empty, filled_from, known_of, line_at, put_line, Stores, Writes};
+ghost use Rattle.nda_cache.specs.Tried.{HasRoom, IsFound, IsThere, IsTried, empty, filled_from, known_of, line_at, put_line, Stores, Writes};
 
 use conda_base::{Line, line_of, offset_of};
 use set_assoc::Sets;
@@ -62,6 +63,115 @@ impl Model for NdaCache {
     ghost invariant = { λ c. IsStore c.line_bytes c.sets c.ways c.index c.lines.items c.stored.items × (c.sets * c.ways ≤ vec_capacity c.lines) × (c.sets * c.ways ≤ vec_capacity c.stored) };
 }
 
+/// What the lines of a try have of the bytes of a load.
+#[derive(Clone, Copy, Debug, PartialEq, Eq)]
+pub enum Look {
+    /// All of them were stored, or their line was filled: this is their value.
+    Known(u32),
+    /// Their line has to be filled, and there is room for it.
+    Missing,
+    /// Their line isn't there, and its set is full.
+    Full,
+}
+
+/// What became of a store that could be refused.
+#[derive(Clone, Copy, Debug, PartialEq, Eq)]
+pub enum Stored {
+    /// Its line isn't there, and its set is full.
+    Full,
+    /// There was room for it, and it was refused.
+    Refused,
+    /// It was done.
+    Done,
+}
+
+impl NdaCache {
+    ghost use Rattle.nda_cache.specs.Looks.{Looks, StoresUnless};
+
+    /// Stores as `write` does, with one search, but changes nothing where the line has no room or the store is refused.
+    pub fn store_unless(&mut self, addr: u32, size: u8, value: u32, refused: bool) -> Stored
+        requires size { IsAccessSize size }
+        requires aligned { addr % size ≡ 0 }
+        ensures stores { StoresUnless self.old refused (line_at self.old addr) (line_offset addr self.old.line_bytes) size value result self.new }
+        ensures kept { IsTried self.new }
+    {
+        let line_bytes = self.line_bytes;
+        let l = line_of(addr, line_bytes);
+        let offset = offset_of(addr, line_bytes);
+        let found = self.find(l);
+        if !self.has_room(l, found) {
+            return Stored::Full;
+        }
+        if refused {
+            return Stored::Refused;
+        }
+        self.write_found(found, l, offset, size, value);
+        Stored::Done
+    }
+
+    // The place of a line among the lines of the try.
+    fn find(&self, l: Line) -> Option<usize>
+        ensures found { IsFound self.now l result }
+        ensures kept { IsTried self.now }
+    {
+        match self.index.peek(l) {
+            Some(place) => Some(place as usize),
+            None => None,
+        }
+    }
+
+    // Whether a line was found or its set isn't full.
+    fn has_room(&self, l: Line, found: Option<usize>) -> bool
+        requires { IsFound self.now l found }
+        ensures { IsTrue result ↔ HasRoom self.now l }
+    {
+        found.is_some() || !self.index.is_full(l)
+    }
+
+    /// Looks up the bytes of a load, with one search.
+    pub fn look(&self, addr: u32, size: u8) -> Look
+        requires size { IsAccessSize size }
+        requires aligned { addr % size ≡ 0 }
+        ensures looks { Looks self.now (line_at self.now addr) (line_offset addr self.now.line_bytes) size result }
+        ensures kept { IsTried self.now }
+    {
+        let line_bytes = self.line_bytes;
+        self.look_at(line_of(addr, line_bytes), offset_of(addr, line_bytes), size)
+    }
+
+    // Looks up the bytes of an access to a line.
+    fn look_at(&self, l: Line, offset: usize, size: u8) -> Look
+        requires size { IsAccessSize size }
+        requires within { offset + size ≤ self.now.line_bytes }
+        ensures looks { Looks self.now l offset size result }
+        ensures kept { IsTried self.now }
+    {
+        match self.index.peek(l) {
+            Some(place) => look_in(&self.lines[place as usize].1, offset, size),
+            None => {
+                if self.index.is_full(l) {
+                    Look::Full
+                } else {
+                    Look::Missing
+                }
+            }
+        }
+    }
+}
+
+// Looks up the bytes of an access in its line.
+fn look_in(line: &Masked, offset: usize, size: u8) -> Look
+    requires size { IsAccessSize size }
+    requires within { offset + size ≤ 128 }
+    ensures { LooksIn line.now offset size result }
+{
+    if line.filled || line.covers(offset, size) {
+        Look::Known(line.get(offset, size))
+    } else {
+        Look::Missing
+    }
+}
+
 impl NdaCache {
     /// An empty cache with 1 to 256 sets of 1 to 8 ways. All its memory is taken here.
     pub fn new(alloc: Global, line_bytes: u32, sets: u32, ways: u32) -> Result<NdaCache, AllocError>
@@ -70,7 +180,8 @@ impl NdaCache {
         requires few_sets { sets ≤ 256 }
         requires some_ways { 0 < ways }
         requires few_ways { ways ≤ 8 }
-        ensures { IfOk result (λ c. c ≡ empty line_bytes sets ways) }
+        ensures empty { IfOk result (λ c. c ≡ empty line_bytes sets ways) }
+        ensures kept { IfOk result (λ c. IsTried c) }
     {
         let total = (sets * ways) as usize;
         let index = Sets::new(alloc, sets, ways)?;
@@ -92,6 +203,14 @@ impl NdaCache {
         ensures kept { IsTried self.now }
     {
         self.index.peek(l).is_some() || !self.index.is_full(l)
+    }
+
+    /// Whether a line is there: it was filled or stored to since the last clear.
+    pub fn is_there(&self, l: Line) -> bool
+        ensures there { IsTrue result ↔ IsThere self.now l }
+        ensures kept { IsTried self.now }
+    {
+        self.index.peek(l).is_some()
     }
 
     /// Whether each byte of an access was stored.
@@ -130,10 +249,12 @@ impl NdaCache {
     pub fn fill(&mut self, l: Line, from: &[u8; 128])
         requires room { HasRoom self.old l }
         requires unfilled { (known_of self.old l).filled ≡ false }
-        ensures { let line = filled_from self.old.line_bytes (known_of self.old l) from.now in
+        ensures filled { let line = filled_from self.old.line_bytes (known_of self.old l) from.now in
             self.new ≡ record self.old { lines = put_line l line self.old.lines } }
+        ensures kept { IsTried self.new }
     {
-        let place = self.place_for(l);
+        let found = self.find(l);
+        let place = self.place_for(l, found);
         let copy = first_bytes(from, self.line_bytes as usize);
         fill_line(&mut self.lines[place], &copy);
     }
@@ -166,40 +287,41 @@ impl NdaCache {
         requires size { IsAccessSize size }
         requires aligned { addr % size ≡ 0 }
         requires room { HasRoom self.old (line_at self.old addr) }
-        ensures { Writes self.old self.new (line_at self.old addr) (line_offset addr self.old.line_bytes) size value }
+        ensures writes { Writes self.old self.new (line_at self.old addr) (line_offset addr self.old.line_bytes) size value }
+        ensures kept { IsTried self.new }
     {
         let line_bytes = self.line_bytes;
-        self.write_at(
-            line_of(addr, line_bytes),
-            offset_of(addr, line_bytes),
-            size,
-            value,
-        );
+        let l = line_of(addr, line_bytes);
+        let found = self.find(l);
+        self.write_found(found, l, offset_of(addr, line_bytes), size, value);
     }
 
-    // Stores a number at a place in a line, and marks its bytes.
-    fn write_at(&mut self, l: Line, offset: usize, size: u8, value: u32)
+    // Stores a number at a place in a line that was searched for, and marks its bytes.
+    fn write_found(&mut self, found: Option<usize>, l: Line, offset: usize, size: u8, value: u32)
         requires size { IsAccessSize size }
         requires within { offset + size ≤ self.old.line_bytes }
         requires room { HasRoom self.old l }
-        ensures { Writes self.old self.new l offset size value }
+        requires found { IsFound self.old l found }
+        ensures writes { Writes self.old self.new l offset size value }
+        ensures kept { IsTried self.new }
     {
-        let place = self.place_for(l);
+        let place = self.place_for(l, found);
         let first = put_value(&mut self.lines[place], offset, size, value);
         if first {
             self.stored.push_reserved(l);
         }
     }
 
-    // The place of a line, which is put behind the others where it isn't there.
-    fn place_for(&mut self, l: Line) -> usize
-        requires { HasRoom self.old l }
+    // The place of a line that was searched for, which is put behind the others where it isn't there.
+    fn place_for(&mut self, l: Line, found: Option<usize>) -> usize
+        requires room { HasRoom self.old l }
+        requires found { IsFound self.old l found }
         ensures lines { self.new ≡ record self.old { lines = put_line l (known_of self.old l) self.old.lines } }
         ensures place { slice_get self.new.lines result ≡ Some (l, known_of self.old l) }
         ensures within { result < length self.new.lines }
     {
-        match self.index.peek(l) {
-            Some(place) => place as usize,
+        match found {
+            Some(place) => place,
             None => {
                 let place = self.lines.len();
                 put_in(&mut self.index, l, place as u16);
@@ -211,7 +333,8 @@ impl NdaCache {
 
     /// A stored line with its bytes and marks, by the order of first stores.
     pub fn written(&self, place: usize) -> Option<(Line, Masked)>
-        ensures { result ≡ option_map (λ l. (l, known_of self.now l)) (slice_get self.now.stored place) }
+        ensures line { result ≡ option_map (λ l. (l, known_of self.now l)) (slice_get self.now.stored place) }
+        ensures kept { IsTried self.now }
     {
         let l = nth_line(&self.stored, place)?;
         let place = self.index.peek(l).unwrap();
@@ -220,7 +343,8 @@ impl NdaCache {
 
     /// Takes every line out.
     pub fn clear(&mut self)
-        ensures { self.new ≡ empty self.old.line_bytes self.old.sets self.old.ways }
+        ensures empty { self.new ≡ empty self.old.line_bytes self.old.sets self.old.ways }
+        ensures kept { IsTried self.new }
     {
         self.index.clear();
         self.lines.clear();
@@ -287,6 +411,7 @@ mod tests {
         assert!(rt; cache.covered(4, 2));
         assert!(rt; !cache.covered(4, 4));
         assert!(rt; cache.room(Line(0)));
+        assert!(rt; cache.is_there(Line(0)));
         assert!(rt; !cache.filled(Line(0)));
         cache.fill(Line(0), &[7; 128]);
         assert!(rt; cache.filled(Line(0)));

@@ -3,4 +3,4 @@
 
 mod cache;
 
-pub use cache::NdaCache;
+pub use cache::{Look, NdaCache, Stored};

@@ -17,56 +17,13 @@ use Rattle.offload_calls.specs.declared.status.Core.{Core}
 use Rattle.offload_calls.specs.declared.status.CoreStatus.{CoreStatus}
 use Rattle.offload_calls.specs.declared.status.CoreStatus.TheVariants as Core_is
 use Rattle.offload_calls.specs.Calls.{is_idle, is_running, waits, launches, collects}
-use Rattle.offload_calls.specs.Stores.{bytes_from, overlay, byte_at, latest, stored_addresses, has}
+use Rattle.offload_calls.specs.Stores.{Inside, overlay, byte_at, latest}
 use Rattle.offload_calls.specs.Effects.{stores_of_access, is_call, loads_of, loaded}
 use Rattle.offload_calls.specs.State.{Setup, State, updated, status_of, launched_core}
 use Rattle.offload_calls.specs.HartAct.{HartEffect, CoreChange, Stays, Starts, Rests, hart_runs, change_of_call, plan_effect, act_effect, waits_next, steps, cores_after, hart_does, hart_stores, hart_step}
-use Rattle.offload_calls.proofs.StoreLemmas.{length-overlay}
-
--- ---- bytes of memory after stores
-
--- a store in the `room` bytes from `base` on
-abbrev pub Inside : ℕ → ℕ → ℕ × ℕ → Type 0
-Inside base room store = (base ≤ store.0) × (store.0 < base + room)
-
-byte_at-set : (base : ℕ) (memory : List ℕ) (place byte addr : ℕ) → base ≤ place → place < base + length memory → base ≤ addr
-    → byte_at base (set memory (place - base) byte) addr ≡ cond (eqb place addr) byte (byte_at base memory addr)
-byte_at-set base memory place byte addr low high from = go (eqb place addr) refl
-  where
-    go : (b : Bool) → eqb place addr ≡ b → byte_at base (set memory (place - base) byte) addr ≡ cond b byte (byte_at base memory addr)
-    go true e =
-        let same : place ≡ addr = eqb-true place addr e in
-        let here : addr - base ≡ place - base = ap (λ k. k - base) (sym same) in
-        ap (λ k. get_or (set memory (place - base) byte) k 0) here ∙ get_or-set_same memory (place - base) byte 0 (omega arith)
-    go false e =
-        let other : place ≢ addr = eqb-false place addr e in
-        get_or-set_other memory (place - base) (addr - base) byte 0 (λ same. other (omega arith))
-
--- the byte at an address is the last one stored there, or the byte before
-pub byte_at-overlay : (base : ℕ) (memory : List ℕ) (stores : List (ℕ × ℕ)) (addr : ℕ) → All (Inside base (length memory)) stores → base ≤ addr
-    → byte_at base (overlay base memory stores) addr ≡ latest stores addr (byte_at base memory addr)
-byte_at-overlay base memory [] addr inside from = refl
-byte_at-overlay base memory (store ∷ stores) addr inside from =
-    let new : List ℕ = set memory (store.0 - base) store.1 in
-    let here : Inside base (length memory) store = All-head (Inside base (length memory)) store stores inside in
-    let rest : All (Inside base (length memory)) stores = All-tail (Inside base (length memory)) store stores inside in
-    byte_at-overlay base new stores addr (rw length-set rest) from
-    ∙ ap (latest stores addr) (byte_at-set base memory store.0 store.1 addr here.0 here.1 from)
-
--- an address that isn't among the stored ones keeps its byte
-pub latest-elsewhere : (stores : List (ℕ × ℕ)) (addr byte : ℕ) → has (stored_addresses stores) addr ≡ false → latest stores addr byte ≡ byte
-latest-elsewhere [] addr byte other = refl
-latest-elsewhere (store ∷ stores) addr byte other =
-    let parts = or_parts (eqb store.0 addr) (has (stored_addresses stores) addr) other in
-    ap (λ b. latest stores addr (cond b store.1 byte)) parts.0 ∙ latest-elsewhere stores addr byte parts.1
+use Rattle.offload_calls.proofs.StoreLemmas.{length-overlay, bytes_from-inside, byte_at-overlay}
 
 -- ---- what an access stores lies in memory
-
-bytes_from-inside : (base room addr size value : ℕ) → base ≤ addr → addr + size ≤ base + room → All (Inside base room) (bytes_from addr size value)
-bytes_from-inside base room addr zero value low high = All-nil (Inside base room)
-bytes_from-inside base room addr (suc size) value low high =
-    All-cons (Inside base room) (addr, value % 256) (bytes_from (suc addr) size (value / 256)) (low, omega arith)
-    (bytes_from-inside base room (suc addr) size (value / 256) (omega arith) (omega arith))
 
 pub stores_of_access-inside : (code : CodeView) (access : Access) (value : ℕ) → AccessFits code access
     → All (Inside code.base (length code.bytes)) (stores_of_access value access)

@@ -1,2 +1,4 @@
 pub mod StoreLemmas
 pub mod HartFacts
+pub mod SpanFacts
+pub mod StepFacts

@@ -1,13 +1,16 @@
 -- Stores laid over memory, and what is read there.
-use Rattle.std.proofs.Common.{◌≡◌, ℕ, zero, suc, ◌+◌, ◌-◌, ◌*◌, ◌/◌, ◌%◌, ◌≤◌, List, [], ◌∷◌, ◌++◌, length, set, get_or, take, drop, refl, sym, ap, ◌∙◌, arith, append_assoc, add-zero, ⊎_elim, length-set}
+use Rattle.std.proofs.Common.{◌≡◌, ◌≢◌, ℕ, zero, suc, ◌+◌, ◌-◌, ◌*◌, ◌/◌, ◌%◌, ◌<◌, ◌≤◌, Bool, true, false, ◌||◌, cond, eqb, List, [], ◌∷◌, ◌++◌, length, set, get_or, take, drop, refl, sym, ap, ◌∙◌, arith, append_assoc, add-zero, ⊎_elim, length-set}
+use Rattle.std.specs.Prelude.{All}
 use Rattle.std.specs.Int.{to_le_bytes, w32}
 use Rattle.std.proofs.Math.Seq.{drop-cons, take-suc-set}
 use Rattle.std.proofs.Math.Nat.{div-div-eq-div-mul}
-use Rattle.std.proofs.lemmas.List.{drop-set-lt, take-append-drop, append-nil}
+use Rattle.std.proofs.lemmas.Bool.{eqb-true, eqb-false, or_parts, false≢true}
+use Rattle.std.proofs.lemmas.List.{drop-set-lt, take-append-drop, append-nil, get_or-set_same, get_or-set_other}
+use Rattle.std.proofs.lemmas.List.Elements.{All-nil, All-cons, All-head, All-tail}
 use Rattle.conda_base.specs.Bytes.{stored, value_at, number_of}
 use Rattle.conda_base.specs.Lines.{IsAccessSize}
 use Rattle.conda_base.proofs.LineLemmas.{access_size_cases}
-use Rattle.offload_calls.specs.Stores.{bytes_from, overlay, byte_at, number_at}
+use Rattle.offload_calls.specs.Stores.{Inside, bytes_from, overlay, byte_at, latest, number_at, stored_addresses, has}
 
 -- ---- the bytes of a number
 
@@ -78,3 +81,73 @@ pub number_at-memory : (base : ℕ) (memory : List ℕ) (addr size : ℕ) → ba
     → number_at (byte_at base memory) addr size ≡ value_at memory (addr - base) size
 number_at-memory base memory addr size low high =
     number_at-place base memory addr (addr - base) size (omega arith) (omega arith)
+
+-- ---- bytes of memory after stores
+
+byte_at-set : (base : ℕ) (memory : List ℕ) (place byte addr : ℕ) → base ≤ place → place < base + length memory → base ≤ addr
+    → byte_at base (set memory (place - base) byte) addr ≡ cond (eqb place addr) byte (byte_at base memory addr)
+byte_at-set base memory place byte addr low high from = go (eqb place addr) refl
+  where
+    go : (b : Bool) → eqb place addr ≡ b → byte_at base (set memory (place - base) byte) addr ≡ cond b byte (byte_at base memory addr)
+    go true e =
+        let same : place ≡ addr = eqb-true place addr e in
+        let here : addr - base ≡ place - base = ap (λ k. k - base) (sym same) in
+        ap (λ k. get_or (set memory (place - base) byte) k 0) here ∙ get_or-set_same memory (place - base) byte 0 (omega arith)
+    go false e =
+        let other : place ≢ addr = eqb-false place addr e in
+        get_or-set_other memory (place - base) (addr - base) byte 0 (λ same. other (omega arith))
+
+-- the byte at an address is the last one stored there, or the byte before
+pub byte_at-overlay : (base : ℕ) (memory : List ℕ) (stores : List (ℕ × ℕ)) (addr : ℕ) → All (Inside base (length memory)) stores → base ≤ addr
+    → byte_at base (overlay base memory stores) addr ≡ latest stores addr (byte_at base memory addr)
+byte_at-overlay base memory [] addr inside from = refl
+byte_at-overlay base memory (store ∷ stores) addr inside from =
+    let new : List ℕ = set memory (store.0 - base) store.1 in
+    let here : Inside base (length memory) store = All-head (Inside base (length memory)) store stores inside in
+    let rest : All (Inside base (length memory)) stores = All-tail (Inside base (length memory)) store stores inside in
+    byte_at-overlay base new stores addr (rw length-set rest) from
+    ∙ ap (latest stores addr) (byte_at-set base memory store.0 store.1 addr here.0 here.1 from)
+
+-- an address that isn't among the stored ones keeps its byte
+pub latest-elsewhere : (stores : List (ℕ × ℕ)) (addr byte : ℕ) → has (stored_addresses stores) addr ≡ false → latest stores addr byte ≡ byte
+latest-elsewhere [] addr byte other = refl
+latest-elsewhere (store ∷ stores) addr byte other =
+    let parts = or_parts (eqb store.0 addr) (has (stored_addresses stores) addr) other in
+    ap (λ b. latest stores addr (cond b store.1 byte)) parts.0 ∙ latest-elsewhere stores addr byte parts.1
+
+-- and one that is keeps none of what is below it
+pub latest_stored : (stores : List (ℕ × ℕ)) (addr x y : ℕ) → has (stored_addresses stores) addr ≡ true → latest stores addr x ≡ latest stores addr y
+latest_stored [] addr x y there = absurd (false≢true there)
+latest_stored (store ∷ stores) addr x y there = go (eqb store.0 addr) there (latest_stored stores addr x y)
+  where
+    go : (b : Bool) → (b || has (stored_addresses stores) addr) ≡ true
+        → (has (stored_addresses stores) addr ≡ true → latest stores addr x ≡ latest stores addr y)
+        → latest stores addr (cond b store.1 x) ≡ latest stores addr (cond b store.1 y)
+    go true there rest = refl
+    go false there rest = rest there
+
+-- ---- stores behind stores
+
+pub overlay-append : (base : ℕ) (memory : List ℕ) (stores more : List (ℕ × ℕ)) → overlay base memory (stores ++ more) ≡ overlay base (overlay base memory stores) more
+overlay-append base memory [] more = refl
+overlay-append base memory (store ∷ stores) more = overlay-append base (set memory (store.0 - base) store.1) stores more
+
+pub latest-append : (stores more : List (ℕ × ℕ)) (addr byte : ℕ) → latest (stores ++ more) addr byte ≡ latest more addr (latest stores addr byte)
+latest-append [] more addr byte = refl
+latest-append (store ∷ stores) more addr byte = latest-append stores more addr (cond (eqb store.0 addr) store.1 byte)
+
+-- ---- the bytes of a number
+
+pub bytes_from-inside : (base room addr size value : ℕ) → base ≤ addr → addr + size ≤ base + room → All (Inside base room) (bytes_from addr size value)
+bytes_from-inside base room addr zero value low high = All-nil (Inside base room)
+bytes_from-inside base room addr (suc size) value low high =
+    All-cons (Inside base room) (addr, value % 256) (bytes_from (suc addr) size (value / 256)) (low, omega arith)
+    (bytes_from-inside base room (suc addr) size (value / 256) (omega arith) (omega arith))
+
+-- two readers that agree on a span read one number there
+pub number_at-same : (f g : ℕ → ℕ) (addr size : ℕ) → ((x : ℕ) → addr ≤ x → x < addr + size → f x ≡ g x) → number_at f addr size ≡ number_at g addr size
+number_at-same f g addr zero same = refl
+number_at-same f g addr (suc size) same =
+    let here : f addr ≡ g addr = same addr (omega arith) (omega arith) in
+    let rest : number_at f (suc addr) size ≡ number_at g (suc addr) size = number_at-same f g (suc addr) size (λ x low high. same x (omega arith) (omega arith)) in
+    cc

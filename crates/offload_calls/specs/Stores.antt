@@ -1,5 +1,5 @@
 -- Bytes that acts store: lists of addresses with the byte stored there, in order.
-use Rattle.std.specs.Prelude.{ℕ, zero, suc, ◌+◌, ◌-◌, ◌*◌, ◌/◌, ◌%◌, ◌==◌, ◌||◌, Bool, false, List, [], ◌∷◌, slice_index, slice_set, map, if◌then◌else◌}
+use Rattle.std.specs.Prelude.{ℕ, zero, suc, ◌+◌, ◌-◌, ◌*◌, ◌/◌, ◌%◌, ◌<◌, ◌≤◌, ◌==◌, ◌||◌, Bool, false, List, [], ◌∷◌, slice_index, slice_set, map, if◌then◌else◌}
 
 -- the stores of a number of `size` bytes, the lowest first
 abbrev pub bytes_from : ℕ → ℕ → ℕ → List (ℕ × ℕ)
@@ -10,6 +10,10 @@ bytes_from addr (suc size) value = (addr, value % 256) ∷ bytes_from (suc addr)
 abbrev pub overlay : ℕ → List ℕ → List (ℕ × ℕ) → List ℕ
 overlay base memory [] = memory
 overlay base memory (store ∷ stores) = overlay base (slice_set memory (store.0 - base) store.1) stores
+
+-- a store into the `room` bytes from `base` on
+abbrev pub Inside : ℕ → ℕ → ℕ × ℕ → Type 0
+Inside base room store = (base ≤ store.0) × (store.0 < base + room)
 
 -- the byte of a memory at an address
 abbrev pub byte_at : ℕ → List ℕ → ℕ → ℕ

@@ -13,7 +13,8 @@ use Rattle.std.proofs.lemmas.Bool.Decides.{nat_tests}
 use Rattle.std.proofs.lemmas.Grind.{common_steps}
 use Rattle.conda_base.specs.Lines.{IsLineOf}
 use Rattle.conda_base.proofs.LineLemmas.{line_bytes_in_memory, line_size_cases}
-use Rattle.run_report.specs.View.{View, IsShown, handed_out, line_of}
+use Rattle.conda_base.specs.Bytes.{handed_out}
+use Rattle.run_report.specs.View.{View, IsShown, line_of}
 use Rattle.run_report.specs.Texts.{changed_line_text, texts_below, register_text, registers_text, hart_line_text, core_line_text, hart_text, core_text, harts_text, cores_text, changed_text, changes_text}
 use Rattle.run_report.specs.Writes.{Wrote, WrotePart}
 

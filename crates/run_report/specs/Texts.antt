@@ -3,6 +3,7 @@ use Rattle.std.specs.Prelude.{ℕ, ◌+◌, ◌-◌, ◌*◌, ◌%◌, ◌/◌, 
 use Rattle.std.specs.List.{flat_map}
 use Rattle.std.specs.Cmp.Lexicographic.{pointwise}
 use Rattle.std.specs.Fmt.{decimal}
+use Rattle.conda_base.specs.Digits.{hex_byte, hex_word}
 use Rattle.rv32_hart.specs.declared.regs.Trap.{Trap}
 use Rattle.offload_calls.specs.declared.status.HartStatus.{HartStatus}
 use Rattle.offload_calls.specs.declared.status.HartStatus.TheVariants as Hart_is
@@ -13,20 +14,6 @@ use Rattle.run_report.specs.View.{View, line_of}
 -- a line feed
 abbrev pub feed : List ℕ
 feed = 10 ∷ []
-
--- a lower-case hexadecimal digit
-abbrev pub hex_digit : ℕ → ℕ
-hex_digit d = if nat_lt d 10 then 48 + d else 97 + (d - 10)
-
--- two digits
-abbrev pub hex_byte : ℕ → List ℕ
-hex_byte n = hex_digit (n / 16) ∷ hex_digit (n % 16) ∷ []
-
--- eight digits
-unfoldable pub hex_word : ℕ → List ℕ
-hex_word n =
-    hex_digit (n / 2 ^ 28 % 16) ∷ hex_digit (n / 2 ^ 24 % 16) ∷ hex_digit (n / 2 ^ 20 % 16) ∷ hex_digit (n / 2 ^ 16 % 16)
-    ∷ hex_digit (n / 2 ^ 12 % 16) ∷ hex_digit (n / 2 ^ 8 % 16) ∷ hex_digit (n / 2 ^ 4 % 16) ∷ hex_digit (n % 16) ∷ []
 
 -- the texts of 0 up to n - 1, one after another
 unfoldable pub texts_below : (ℕ → List ℕ) → ℕ → List ℕ

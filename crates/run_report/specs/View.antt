@@ -1,5 +1,5 @@
 -- What a report shows.
-use Rattle.std.specs.Prelude.{ℕ, ◌≡◌, ◌+◌, ◌-◌, ◌^◌, ◌≤◌, List, ◌++◌, length, replicate}
+use Rattle.std.specs.Prelude.{ℕ, ◌≡◌, ◌+◌, ◌-◌, ◌^◌, ◌≤◌, List, length}
 use Rattle.conda_base.specs.Lines.{IsLineSize, IsWhole}
 use Rattle.conda_base.specs.Bytes.{bytes_of_line}
 use Rattle.offload_calls.specs.declared.status.Hart.{Hart}
@@ -27,7 +27,3 @@ pub record IsShown (v : View) : Type 0 where
 -- the bytes of line l, in one of the two lists
 abbrev pub line_of : View → List ℕ → ℕ → List ℕ
 line_of v bytes l = bytes_of_line v.base v.line_bytes bytes l
-
--- a line's bytes in a buffer of 128, with zeros after them
-abbrev pub handed_out : List ℕ → List ℕ
-handed_out bytes = bytes ++ replicate (128 - length bytes) 0

@@ -2,13 +2,14 @@
 ghost use Rattle.std.specs.Prelude.{◌≡◌, ◌+◌, ◌<◌, ◌≤◌, [], ◌∷◌, ◌++◌, length, codes};
 ghost use Rattle.std.specs.Fmt.{decimal};
 ghost use Rattle.arrayvec.specs.ArrayVec.{array_vec_len};
-ghost use Rattle.run_report.specs.Texts.{hex_word, head_text, trap_text, hart_status_text, core_status_text, hart_line_text, core_line_text, register_line_text, changed_line_text};
+ghost use Rattle.conda_base.specs.Digits.{hex_word};
+ghost use Rattle.run_report.specs.Texts.{head_text, trap_text, hart_status_text, core_status_text, hart_line_text, core_line_text, register_line_text, changed_line_text};
 
-use crate::hex::{push_bytes_digits, word_digits};
+use crate::hex::push_bytes_digits;
 use arrayvec::ArrayVec;
+use conda_base::{push_bytes, push_decimal, word_digits};
 use offload_calls::{CoreStatus, HartStatus};
 use rv32_hart::Trap;
-use schedule_log::{push_bytes, push_decimal};
 
 /// Room for the longest line, which has 271 bytes.
 pub type TextLine = ArrayVec<u8, 288>;

@@ -1,7 +1,8 @@
 // What a report is made of.
 ghost use Rattle.std.specs.Prelude.{◌≡◌, ◌<◌, ◌≤◌, ◌/◌, length};
 ghost use Rattle.conda_base.specs.Lines.{IsLineSize, IsLineOf, line_number};
-ghost use Rattle.run_report.specs.View.{View, IsShown, line_of, handed_out};
+ghost use Rattle.conda_base.specs.Bytes.{handed_out};
+ghost use Rattle.run_report.specs.View.{View, IsShown, line_of};
 
 use conda_base::Line;
 use offload_calls::{CoreStatus, HartStatus};

@@ -3,7 +3,7 @@ ghost use Rattle.std.specs.Prelude.{◌≡◌, ◌+◌, ◌<◌, ◌≤◌, ◌^
 ghost use Rattle.conda_base.specs.Lines.{IsAccessSize};
 ghost use Rattle.rv32_decode.specs.Ranges.{FieldsFit};
 ghost use Rattle.rv32_hart.specs.Regs.{IsRegs};
-ghost use Rattle.rv32_hart.specs.Code.{in_memory};
+ghost use Rattle.rv32_hart.specs.Code.{IsCode, in_memory};
 ghost use Rattle.rv32_hart.specs.Act.{trapped, checked, jumps, plan_instr, plan_of, after, branches, target_of_jalr, is_system, IsPlan};
 
 use crate::arithmetic::{
@@ -54,11 +54,13 @@ pub struct Planned {
 pub fn plan(code: &Code, r: &Regs) -> Result<Planned, Trap>
     ensures value { result ≡ plan_of code.now r.now }
     ensures fits { IfOk result (IsPlan code.now) }
+    ensures code { IsCode code.now }
 {
+    let word = code.word(r.pc);
     if r.pc % 4 != 0 {
         return refuse(0, r.pc);
     }
-    let Some(word) = code.word(r.pc) else {
+    let Some(word) = word else {
         return refuse(1, r.pc);
     };
     match decode(word) {

@@ -7,7 +7,7 @@ use Rattle.conda_base.specs.declared.actor.Actor.TheVariants.{Hart, Core}
 use Rattle.schedule_log.specs.declared.entry.Entry.{Entry}
 use Rattle.schedule_log.specs.declared.entry.Entry.TheVariants.{Step, Waits, Idle, Held, Open, Lock, Spec, Commit, Back, Flush, Kern}
 use Rattle.schedule_log.specs.Texts.{actor_text, end_text, text_of, IsActor, IsEnd, IsEntry}
-use Rattle.schedule_log.proofs.DecimalLemmas.{length_decimal_digit}
+use Rattle.conda_base.proofs.DecimalLemmas.{length_decimal_digit}
 
 one_digit : (n : ℕ) → n < 8 → length (decimal n) ≤ 1
 one_digit n h = length_decimal_digit n (omega arith)

@@ -9,7 +9,8 @@ use Rattle.std.proofs.lemmas.Bool.{eqb-true}
 use Rattle.std.proofs.lemmas.Bool.Decides.{nat_tests}
 use Rattle.conda_base.specs.declared.actor.Actor.{Actor}
 use Rattle.conda_base.specs.declared.actor.Actor.TheVariants.{Hart, Core}
-use Rattle.schedule_log.specs.Schedule.{begins_above_zero, count_of, is_digit, number_after}
+use Rattle.conda_base.specs.Digits.{is_digit, number_after}
+use Rattle.schedule_log.specs.Schedule.{begins_above_zero, count_of}
 use Rattle.schedule_log.specs.Texts.{actor_text, IsActor}
 use Rattle.schedule_log.specs.EntryReading.{acts_in, actor_in, cause_in, digit_in}
 use Rattle.schedule_log.proofs.ScheduleLemmas.{count_of_good}

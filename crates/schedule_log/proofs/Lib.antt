@@ -1,5 +1,5 @@
+pub mod ActorLemmas
 pub mod AnswerLemmas
-pub mod DecimalLemmas
 pub mod EndLemmas
 pub mod EndReadingLemmas
 pub mod EntryLemmas

@@ -3,7 +3,8 @@ use Rattle.std.proofs.Common.{◌≡◌, ℕ, ◌+◌, ◌-◌, ◌*◌, ◌<◌
 use Rattle.std.specs.Prelude.{Some, None}
 use Rattle.std.specs.List.{list_all, list_any}
 use Rattle.std.proofs.lemmas.Bool.Decides.{nat_tests}
-use Rattle.schedule_log.specs.Schedule.{is_digit, number_after, begins_above_zero, count_of, is_feed, onto_first, ended_lines, last_part}
+use Rattle.conda_base.specs.Digits.{is_digit, number_after}
+use Rattle.schedule_log.specs.Schedule.{begins_above_zero, count_of, is_feed, onto_first, ended_lines, last_part}
 
 or_false : (a b : Bool) → (a || b) ≡ false → (a ≡ false) × (b ≡ false)
 or_false true b h = cc

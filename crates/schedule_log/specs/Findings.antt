@@ -1,5 +1,5 @@
 -- What a schedule asks for, line by line, and a reader that has met a part of it.
-use Rattle.std.specs.Prelude.{◌≡◌, ℕ, ◌+◌, ◌-◌, ◌<◌, ◌≤◌, Bool, true, false, List, [], ◌∷◌, ◌++◌, length, ◌⊎◌, Option, Some, None, slice_get, if◌then◌else◌}
+use Rattle.std.specs.Prelude.{◌≡◌, ℕ, ◌+◌, ◌-◌, ◌<◌, ◌≤◌, Bool, true, false, List, [], ◌∷◌, ◌++◌, length, ◌⊎◌, Option, Some, None, slice_get, IsTrue, if◌then◌else◌}
 use Rattle.std.specs.List.{list_any}
 use Rattle.conda_base.specs.declared.actor.Actor.{Actor}
 use Rattle.schedule_log.specs.declared.line.Reading.{Reading}
@@ -10,12 +10,18 @@ use Rattle.schedule_log.specs.declared.fed.Fed.TheVariants as Fed_is
 use Rattle.schedule_log.specs.declared.fed.Last.{Last}
 use Rattle.schedule_log.specs.declared.fed.Last.TheVariants as Last_is
 use Rattle.schedule_log.specs.Schedule.{is_feed, judged_lines}
-use Rattle.schedule_log.specs.Grammar.{reading}
+use Rattle.schedule_log.specs.Grammar.{reading, is_on_chip}
 
 -- a line that asks for so many events of an actor, or a bad line with its number and why it is bad
 pub data Finding : Type 0 where
   Asks : Actor → ℕ → Finding
   Fails : ℕ → ℕ → Finding
+
+-- each actor that is asked for is one of a chip with so many harts and cores
+abbrev pub AreOnChip : ℕ → ℕ → List Finding → Type 0
+AreOnChip harts cores [] = Unit {0}
+AreOnChip harts cores (Asks a count ∷ later) = IsTrue (is_on_chip harts cores a) × AreOnChip harts cores later
+AreOnChip harts cores (Fails line why ∷ later) = Unit {0}
 
 -- what the line of this number says, before what the lines after it say; none are looked at after a bad one
 abbrev pub found_then : Reading → ℕ → List Finding → List Finding

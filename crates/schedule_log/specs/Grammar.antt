@@ -5,7 +5,8 @@ use Rattle.conda_base.specs.declared.actor.Actor.{Actor}
 use Rattle.conda_base.specs.declared.actor.Actor.TheVariants.{Hart, Core}
 use Rattle.schedule_log.specs.declared.line.Reading.{Reading}
 use Rattle.schedule_log.specs.declared.line.Reading.TheVariants.{Blank, Events, Bad}
-use Rattle.schedule_log.specs.Schedule.{is_digit, count_of}
+use Rattle.conda_base.specs.Digits.{is_digit}
+use Rattle.schedule_log.specs.Schedule.{count_of}
 
 -- a carriage return at the end
 abbrev pub ends_in_return : List ℕ → Bool

@@ -2,7 +2,7 @@
 use Rattle.std.specs.Prelude.{◌≡◌, ℕ, Bool, List, [], ◌++◌}
 use Rattle.schedule_log.specs.declared.entry.Entry.{Entry}
 use Rattle.schedule_log.specs.Texts.{text_of, IsEntry}
-use Rattle.schedule_log.specs.Findings.{Finding, Progress, Feeds, at_start, finds}
+use Rattle.schedule_log.specs.Findings.{Finding, Progress, Feeds, AreOnChip, at_start, finds}
 use Rattle.schedule_log.specs.Verdict.{Fine, events, good, schedule_verdict}
 
 -- two pieces, one after another, are one piece, and give what both give
@@ -17,6 +17,10 @@ WholeIsFound = (harts cores : ℕ) (text : List ℕ) (given : List Finding) (las
 -- of a schedule that nothing is wrong with every event runs
 abbrev pub FineRunsAll : Type 0
 FineRunsAll = (harts cores : ℕ) (bytes : List ℕ) → schedule_verdict harts cores bytes ≡ Fine → good harts cores bytes ≡ events harts cores bytes
+
+-- every actor that a reader finds is one of its chip
+abbrev pub FindsItsChip : Type 0
+FindsItsChip = (more : Bool) (reader : Progress) (text : List ℕ) → AreOnChip reader.harts reader.cores (finds more reader text)
 
 -- two entries of a chip never have one text
 abbrev pub OneTextOneEntry : Type 0

@@ -1,15 +1,7 @@
 -- A schedule's lines, and the counts in them.
 use Rattle.std.specs.Prelude.{ℕ, ◌+◌, ◌-◌, ◌*◌, ◌==◌, ◌&&◌, Bool, false, not, List, [], ◌∷◌, ◌++◌, length, Option, Some, None, if◌then◌else◌, nat_le, nat_lt}
 use Rattle.std.specs.List.{list_all, list_any}
-
--- one of the digits 0 to 9
-abbrev pub is_digit : ℕ → Bool
-is_digit byte = nat_le 48 byte && nat_le byte 57
-
--- the number that digits write after a number that stands before them
-abbrev pub number_after : ℕ → List ℕ → ℕ
-number_after n [] = n
-number_after n (digit ∷ digits) = number_after (n * 10 + (digit - 48)) digits
+use Rattle.conda_base.specs.Digits.{is_digit, number_after}
 
 -- text that begins with a byte other than the digit 0
 abbrev pub begins_above_zero : List ℕ → Bool

@@ -1,16 +1,11 @@
 // Counts of events.
 ghost use Rattle.std.specs.Prelude.{◌≡◌};
-ghost use Rattle.schedule_log.specs.Schedule.{is_digit, count_of};
+ghost use Rattle.schedule_log.specs.Schedule.{count_of};
+
+use conda_base::is_decimal;
 
 /// The most events that one line of a schedule may ask for.
 const MAX_COUNT: u32 = 67_108_864;
-
-// One of the digits 0 to 9.
-pub(crate) fn is_decimal(byte: u8) -> bool
-    ensures { result ≡ is_digit byte }
-{
-    byte >= b'0' && byte <= b'9'
-}
 
 // A count in decimal digits, with no leading zero.
 pub(crate) fn read_count(digits: &[u8]) -> Option<u32>

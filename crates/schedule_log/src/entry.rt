@@ -4,9 +4,8 @@ ghost use Rattle.std.specs.Fmt.{decimal};
 ghost use Rattle.arrayvec.specs.ArrayVec.{array_vec_len};
 ghost use Rattle.schedule_log.specs.Texts.{actor_text, end_text, text_of, IsEntry};
 
-use crate::bytes::push_decimal;
 use arrayvec::ArrayVec;
-use conda_base::Actor;
+use conda_base::{Actor, push_decimal};
 
 /// What one event did. Harts and cores are given by their numbers.
 #[derive(Clone, Copy, Debug, PartialEq, Eq)]
@@ -36,7 +35,7 @@ pub enum Entry {
 }
 
 // A letter, a space and a number.
-#[tactic(auto, using(crate::proofs::DecimalLemmas::length_decimal_byte))]
+#[tactic(auto, using(conda_base::proofs::DecimalLemmas::length_decimal_byte))]
 fn push_numbered(out: &mut ArrayVec<u8, 32>, letter: u8, number: u8)
     requires { out.old.items ≡ [] }
     ensures text { out.new.items ≡ letter ∷ 32 ∷ decimal number }
@@ -48,7 +47,7 @@ fn push_numbered(out: &mut ArrayVec<u8, 32>, letter: u8, number: u8)
 }
 
 // A letter, a space and an actor.
-#[tactic(auto, using(crate::proofs::DecimalLemmas::length_decimal_byte))]
+#[tactic(auto, using(conda_base::proofs::DecimalLemmas::length_decimal_byte))]
 fn push_acted(out: &mut ArrayVec<u8, 32>, letter: u8, actor: Actor)
     requires { out.old.items ≡ [] }
     ensures text { out.new.items ≡ letter ∷ 32 ∷ actor_text actor }
@@ -65,7 +64,7 @@ fn push_acted(out: &mut ArrayVec<u8, 32>, letter: u8, actor: Actor)
 }
 
 // A letter and three numbers, with a space before each.
-#[tactic(auto, using(crate::proofs::DecimalLemmas::length_decimal_byte, crate::proofs::DecimalLemmas::length_decimal_word))]
+#[tactic(auto, using(conda_base::proofs::DecimalLemmas::length_decimal_byte, conda_base::proofs::DecimalLemmas::length_decimal_word))]
 fn push_ended(out: &mut ArrayVec<u8, 32>, letter: u8, core: u8, acts: u32, cause: u8)
     requires { out.old.items ≡ [] }
     ensures text { out.new.items ≡ letter ∷ 32 ∷ end_text core acts cause }

@@ -1,7 +1,6 @@
 //! Schedules as they are read, and the order of a run as it is written.
 #![tactic(auto)]
 
-mod bytes;
 mod count;
 mod entry;
 mod entry_reading;
@@ -10,11 +9,10 @@ mod laws;
 mod line;
 mod reader;
 
-pub use bytes::{push_bytes, push_decimal};
 pub use entry::{Entry, entry_text};
 pub use entry_reading::read_entry;
 pub use fed::{Fed, Last};
-pub use laws::{fine_runs_all, one_text_one_entry, pieces_join};
+pub use laws::{actors_are_on_chip, fine_runs_all, one_text_one_entry, pieces_join};
 pub use reader::Reader;
 
 #[cfg(test)]

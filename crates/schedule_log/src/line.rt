@@ -1,11 +1,11 @@
 // One line of a schedule.
 ghost use Rattle.std.specs.Prelude.{◌≡◌, ◌≤◌, IsTrue, length};
 ghost use Rattle.std.specs.List.{list_all};
-ghost use Rattle.schedule_log.specs.Schedule.{is_digit};
+ghost use Rattle.conda_base.specs.Digits.{is_digit};
 ghost use Rattle.schedule_log.specs.Grammar.{actor_of, has_form, is_kind, is_on_chip, reading, without_return, worded};
 
-use crate::count::{is_decimal, read_count};
-use conda_base::Actor;
+use crate::count::read_count;
+use conda_base::{Actor, is_decimal};
 
 /// The most bytes of a line that may still be a good one.
 const MAX_LINE: usize = 32;

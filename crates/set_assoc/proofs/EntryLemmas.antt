@@ -12,7 +12,7 @@ test_of_none : (b : Bool) (n : ℕ) → cond b (Some n) None ≡ None → b ≡ 
 test_of_none true n h = cc
 test_of_none false n h = refl
 
-line_by_number : (a b : Line) → a.0 ≡ b.0 → a ≡ b
+pub line_by_number : (a b : Line) → a.0 ≡ b.0 → a ≡ b
 line_by_number a b same = ap (λ n. record { 0 = n }) same
 
 module _ {T : Type 0} where
@@ -20,7 +20,7 @@ module _ {T : Type 0} where
   abbrev pub is_of : Line → Line × T → Bool
   is_of line entry = eqb entry.0.0 line.0
 
-  stands_at : (line : Line) (entries : List (Line × T)) (i : ℕ) → i < length entries → ((d : Line × T) → is_of line (get_or entries i d) ≡ true) → ((k : ℕ) (d : Line × T) → k < i → is_of line (get_or entries k d) ≡ false) → StandsAt line entries i
+  pub stands_at : (line : Line) (entries : List (Line × T)) (i : ℕ) → i < length entries → ((d : Line × T) → is_of line (get_or entries i d) ≡ true) → ((k : ℕ) (d : Line × T) → k < i → is_of line (get_or entries k d) ≡ false) → StandsAt line entries i
   stands_at line [] i within here before = absurd (omega arith)
   stands_at line (entry ∷ rest) zero within here before =
       let first : is_of line entry ≡ true = here entry in
@@ -35,7 +35,7 @@ module _ {T : Type 0} where
         written = λ value. rw first (ap (λ xs. entry ∷ xs) (later.written value));
       }
 
-  is_absent : (line : Line) (entries : List (Line × T)) → ((k : ℕ) (d : Line × T) → k < length entries → is_of line (get_or entries k d) ≡ false) → IsAbsent line entries
+  pub is_absent : (line : Line) (entries : List (Line × T)) → ((k : ℕ) (d : Line × T) → k < length entries → is_of line (get_or entries k d) ≡ false) → IsAbsent line entries
   is_absent line [] none = record { found = refl; removed = refl; written = λ value. refl }
   is_absent line (entry ∷ rest) none =
       let first : is_of line entry ≡ false = none 0 entry (omega arith) in
@@ -46,33 +46,19 @@ module _ {T : Type 0} where
         written = λ value. rw first (ap (λ xs. entry ∷ xs) (later.written value));
       }
 
-  -- what the answer of `position` tells
-  pub told_by_position : (line : Line) (entries : List (Line × T)) (at : Option ℕ) → at ≡ position (is_of line) entries → MatchOption at (IsAbsent line entries) (StandsAt line entries)
-  told_by_position line [] (Some i) at = absurd cc
-  told_by_position line (entry ∷ rest) (Some i) at =
-      let entries : List (Line × T) = entry ∷ rest in
-      let within : i < length entries = (position-Some (is_of line) entries i entry (sym at)).0 in
-      stands_at line entries i within
-      (λ d. (position-Some (is_of line) entries i d (sym at)).1)
-      (λ k d below. (position-Some (is_of line) entries i d (sym at)).2 k below)
-  told_by_position line entries None at =
-      let past : length entries ≤ position_or_len (is_of line) entries =
-      ltb-false (position_or_len (is_of line) entries) (length entries) (test_of_none _ _ (sym at)) in
-      is_absent line entries (λ k d below. fails_before_first (is_of line) entries k d (omega arith))
-
   -- a line that isn't there isn't the first one, and isn't among the rest
-  absent_parts : (a : Line) (entry : Line × T) (rest : List (Line × T)) → lookup a (entry ∷ rest) ≡ None → (eqb entry.0.0 a.0 ≡ false) × (lookup a rest ≡ None)
+  pub absent_parts : (a : Line) (entry : Line × T) (rest : List (Line × T)) → lookup a (entry ∷ rest) ≡ None → (eqb entry.0.0 a.0 ≡ false) × (lookup a rest ≡ None)
   absent_parts a entry rest absent =
       ⊎_elim (λ yes. let found : Some entry.1 ≡ None = rw yes at absent in absurd cc)
       (λ no. (no, rw no at absent)) (cases_Bool (eqb entry.0.0 a.0))
 
-  lookup-without_absent : (a line : Line) (entries : List (Line × T)) → lookup a entries ≡ None → lookup a (without line entries) ≡ None
+  pub lookup-without_absent : (a line : Line) (entries : List (Line × T)) → lookup a entries ≡ None → lookup a (without line entries) ≡ None
   lookup-without_absent a line [] absent = refl
   lookup-without_absent a line (entry ∷ rest) absent =
       let parts = absent_parts a entry rest absent in
       ⊎_elim (λ yes. rw yes parts.1) (λ no. rw no (rw parts.0 (lookup-without_absent a line rest parts.1))) (cases_Bool (eqb entry.0.0 line.0))
 
-  lookup-replaced_absent : (a line : Line) (value : T) (entries : List (Line × T)) → lookup a entries ≡ None → lookup a (replaced line value entries) ≡ None
+  pub lookup-replaced_absent : (a line : Line) (value : T) (entries : List (Line × T)) → lookup a entries ≡ None → lookup a (replaced line value entries) ≡ None
   lookup-replaced_absent a line value [] absent = refl
   lookup-replaced_absent a line value (entry ∷ rest) absent =
       let parts = absent_parts a entry rest absent in
@@ -81,7 +67,7 @@ module _ {T : Type 0} where
       let other : eqb line.0 a.0 ≡ false = rw same at parts.0 in rw yes (rw other parts.1))
       (λ no. rw no (rw parts.0 (lookup-replaced_absent a line value rest parts.1))) (cases_Bool (eqb entry.0.0 line.0))
 
-  lookup-take_absent : (a : Line) (m : ℕ) (entries : List (Line × T)) → lookup a entries ≡ None → lookup a (take m entries) ≡ None
+  pub lookup-take_absent : (a : Line) (m : ℕ) (entries : List (Line × T)) → lookup a entries ≡ None → lookup a (take m entries) ≡ None
   lookup-take_absent a zero entries absent = refl
   lookup-take_absent a (suc m) [] absent = refl
   lookup-take_absent a (suc m) (entry ∷ rest) absent =

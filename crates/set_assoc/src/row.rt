@@ -1,23 +1,30 @@
-// One set: a list of lines with their values, the most recent first.
+// One set: lines with their values at fixed places, each place with an age.
 ghost use Rattle.std.specs.Prelude.{
   ◌≡◌,
+  ◌≢◌,
   ◌<◌,
   ◌≤◌,
-  [],
   ◌∷◌,
-  List,
+  ◌++◌,
+  ◌==◌,
+  [],
+  ℕ,
+  Some,
+  None,
   length,
+  position,
   take,
   slice_get,
+  slice_set,
   IfOk,
-  is_some,
-  position,
-  ◌==◌,
   MatchOption,
 };
 ghost use Rattle.std.specs.Vec.{vec_capacity};
-ghost use Rattle.set_assoc.specs.Entries.{lookup, without, replaced, touched, StandsAt, IsAbsent};
+ghost use Rattle.set_assoc.specs.Entries.{lookup, without, replaced, touched};
+ghost use Rattle.set_assoc.specs.Ages.{IsLowered, IsNowhere, IsPlaceOf, IsRaised, place_of_age};
+ghost use Rattle.set_assoc.specs.Places.{ArePlaces, place_of, placed};
 
+use crate::placed::Placed;
 use conda_base::Line;
 use std::alloc::{AllocError, Global};
 use std::marker::Model;
@@ -26,21 +33,28 @@ use std::marker::Model;
 const MOST_WAYS: usize = 8;
 
 /// One set. Its room for the most lines is taken when it is made.
+///
+/// A line keeps its place as long as it is there. Of n places the ages are 0 to n - 1, each once, and the lines are
+/// those of the ages below `used`: the most recent has age 0.
 #[derive(Drop)]
 pub struct Row<T: Copy> {
     entries: Vec<(Line, T)>,
+    ages: [u8; 8],
+    used: usize,
 }
 
 impl<T: Copy> Model for Row<T> {
-    ghost use Rattle.std.specs.Prelude.{List, ◌≤◌, length};
+    ghost use Rattle.std.specs.Prelude.{List, ◌≤◌};
     ghost use Rattle.std.specs.Vec.{vec_capacity};
     ghost use Rattle.conda_base.specs.declared.Line.{Line as Number};
+    ghost use Rattle.set_assoc.specs.Ages.{IsRow, lines_by_age};
+    ghost use Rattle.set_assoc.specs.declared.placed.Placed.{Placed};
 
-    ghost Value = { List (Number × T) };
+    ghost Value = { List (Number × Placed T) };
 
-    ghost view = { λ row. row.entries.items };
+    ghost view = { λ row. lines_by_age row.entries.items row.ages row.used };
 
-    ghost invariant = { λ row. (length row.entries.items ≤ 8) × (8 ≤ vec_capacity row.entries) };
+    ghost invariant = { λ row. IsRow row.entries.items row.ages row.used × (8 ≤ vec_capacity row.entries) };
 }
 
 impl<T: Copy> Row<T> {
@@ -48,115 +62,188 @@ impl<T: Copy> Row<T> {
         ensures { IfOk result (λ row. row ≡ []) }
     {
         let entries = Vec::with_capacity(alloc, MOST_WAYS)?;
-        Ok(Row { entries })
+        Ok(Row {
+            entries,
+            ages: [0; 8],
+            used: 0,
+        })
     }
 
     pub fn len(&self) -> usize
         ensures { result ≡ length self.now }
     {
-        self.entries.len()
+        self.used
     }
 
-    pub fn at(&self, way: usize) -> Option<(Line, T)>
+    pub fn at(&self, way: usize) -> Option<(Line, Placed<T>)>
         ensures { result ≡ slice_get self.now way }
     {
-        self.entries.get(way).copied()
+        if way < self.used {
+            let place = place_of_age(&self.ages, way as u8);
+            let (line, value) = self.entries[place];
+            Some((line, Placed { value, place }))
+        } else {
+            None
+        }
     }
 
     pub fn clear(&mut self)
         ensures { self.new ≡ [] }
     {
-        self.entries.clear();
+        self.used = 0;
     }
 
-    // The place of the line, which is the first one that has it.
-    fn place(&self, line: Line) -> Option<usize>
-        ensures { MatchOption result (IsAbsent line self.now) (StandsAt line self.now) }
-    {
-        first_place(&self.entries, line)
-    }
-
-    pub fn peek(&self, line: Line) -> Option<T>
+    /// The value of a line, and its place.
+    pub fn find(&self, line: Line) -> Option<Placed<T>>
         ensures { result ≡ lookup line self.now }
     {
-        match self.place(line) {
-            Some(i) => Some(self.entries[i].1),
-            None => None,
-        }
-    }
-
-    pub fn replace(&mut self, line: Line, value: T) -> Option<T>
-        ensures old { result ≡ lookup line self.old }
-        ensures written { self.new ≡ replaced line value self.old }
-        ensures len { length self.new ≡ length self.old }
-    {
-        match self.place(line) {
-            Some(i) => {
-                let old = self.entries[i].1;
-                self.entries[i] = (line, value);
-                Some(old)
+        match find_place(&self.entries, &self.ages, self.used, line) {
+            Some(place) => {
+                let value = self.entries[place].1;
+                Some(Placed { value, place })
             }
             None => None,
         }
     }
 
-    pub fn remove(&mut self, line: Line) -> Option<T>
-        ensures old { result ≡ lookup line self.old }
+    pub fn replace(&mut self, line: Line, place: usize, value: T)
+        requires { place_of line self.old ≡ Some place }
+        ensures written { self.new ≡ replaced line (placed value place) self.old }
+        ensures places { ArePlaces self.new }
+        ensures len { length self.new ≡ length self.old }
+    {
+        self.entries[place] = (line, value);
+    }
+
+    pub fn remove(&mut self, line: Line, place: usize)
+        requires { place_of line self.old ≡ Some place }
         ensures removed { self.new ≡ without line self.old }
+        ensures places { ArePlaces self.new }
         ensures len { length self.new ≤ length self.old }
     {
-        match self.place(line) {
-            Some(i) => Some(self.entries.remove(i).1),
-            None => None,
-        }
+        let _ = line;
+        lower(&mut self.ages, place, self.entries.len());
+        self.used -= 1;
     }
 
-    pub fn touch(&mut self, line: Line) -> bool
-        ensures found { result ≡ is_some (lookup line self.old) }
+    pub fn touch(&mut self, line: Line, place: usize)
+        requires { place_of line self.old ≡ Some place }
         ensures front { self.new ≡ touched line self.old }
+        ensures places { ArePlaces self.new }
         ensures len { length self.new ≡ length self.old }
     {
-        match self.place(line) {
-            Some(i) => {
-                let (_, value) = self.entries.remove(i);
-                push_front(&mut self.entries, line, value);
-                true
-            }
-            None => false,
+        let _ = line;
+        if self.ages[place] != 0 {
+            raise(&mut self.ages, place);
         }
     }
 
-    pub fn add(&mut self, line: Line, value: T, ways: usize) -> Option<(Line, T)>
+    /// Puts a line in front, and answers its place. The last line leaves where there are as many as `ways`.
+    pub fn add(&mut self, line: Line, value: T, ways: usize) -> usize
         requires some { 0 < ways }
         requires few { ways ≤ 8 }
         requires fits { length self.old ≤ ways }
-        ensures last { result ≡ slice_get ((line, value) ∷ self.old) ways }
-        ensures front { self.new ≡ take ways ((line, value) ∷ self.old) }
+        requires absent { lookup line self.old ≡ None }
+        ensures front { self.new ≡ take ways ((line, placed value result) ∷ self.old) }
+        ensures places { ArePlaces self.new }
         ensures len { length self.new ≤ ways }
     {
-        let last = if self.entries.len() == ways {
-            self.entries.pop()
+        let age = if self.used == ways {
+            ways - 1
         } else {
-            None
+            self.used
         };
-        push_front(&mut self.entries, line, value);
-        last
+        open_place(&mut self.entries, &mut self.ages, age, (line, value));
+        let place = place_of_age(&self.ages, age as u8);
+        self.entries[place] = (line, value);
+        raise(&mut self.ages, place);
+        self.used = age + 1;
+        place
     }
 }
 
-// The first place of a line.
-fn first_place<T: Copy>(entries: &[(Line, T)], line: Line) -> Option<usize>
-    ensures { result ≡ position (λ entry. entry.0.0 == line.0) entries.now }
+// The place of a line among the places in use.
+fn find_place<T: Copy>(
+    entries: &[(Line, T)],
+    ages: &[u8; 8],
+    used: usize,
+    line: Line,
+) -> Option<usize>
+    requires { length entries.now ≤ 8 }
+    ensures { MatchOption result
+        (IsNowhere entries.now ages.now used line) (IsPlaceOf entries.now ages.now used line) }
 {
-    entries.iter().position(|entry| entry.0 == line)
+    for place in 0..entries.len() {
+        if entries[place].0 == line && (ages[place] as usize) < used {
+            return Some(place);
+        }
+    }
+    None
 }
 
-// Puts an entry in front, in room that is there.
-fn push_front<T: Copy>(entries: &mut Vec<(Line, T)>, line: Line, value: T)
-    requires { length entries.old.items < vec_capacity entries.old }
-    ensures items { entries.new.items ≡ (line, value) ∷ entries.old.items }
+// The place of an age.
+fn place_of_age(ages: &[u8; 8], age: u8) -> usize
+    ensures { result ≡ place_of_age ages.now age }
+{
+    match first_of_age(ages, age) {
+        Some(place) => place,
+        None => 8,
+    }
+}
+
+fn first_of_age(ages: &[u8; 8], age: u8) -> Option<usize>
+    ensures { result ≡ position (λ a. a == age) ages.now }
+{
+    ages.iter().position(|a| *a == age)
+}
+
+// Makes a place the most recent.
+fn raise(ages: &mut [u8; 8], place: usize)
+    requires { place < 8 }
+    ensures { IsRaised ages.old place ages.new }
+{
+    let was = ages[place];
+    for age in ages.iter_mut() {
+        if *age < was {
+            *age += 1;
+        }
+    }
+    ages[place] = 0;
+}
+
+// Makes a place the oldest of `count`.
+fn lower(ages: &mut [u8; 8], place: usize, count: usize)
+    requires place { place < count }
+    requires count { count ≤ 8 }
+    ensures { IsLowered ages.old place count ages.new }
+{
+    let was = ages[place];
+    for age in ages.iter_mut() {
+        if *age > was {
+            *age -= 1;
+        }
+    }
+    ages[place] = (count - 1) as u8;
+}
+
+// Makes another place, the oldest, where there is none of this age.
+fn open_place<T: Copy>(
+    entries: &mut Vec<(Line, T)>,
+    ages: &mut [u8; 8],
+    age: usize,
+    entry: (Line, T),
+)
+    requires next { age ≤ length entries.old.items }
+    requires few { age < 8 }
+    requires room { 8 ≤ vec_capacity entries.old }
+    ensures kept { age < length entries.old.items →
+        (entries.new.items ≡ entries.old.items) × (ages.new ≡ ages.old) }
+    ensures more { age ≡ length entries.old.items →
+        (entries.new.items ≡ entries.old.items ++ entry ∷ []) × (ages.new ≡ slice_set ages.old age age) }
     ensures capacity { vec_capacity entries.new ≡ vec_capacity entries.old }
 {
-    entries.push_reserved((line, value));
-    entries.rotate_right(1);
+    if age == entries.len() {
+        entries.push_reserved(entry);
+        ages[age] = age as u8;
+    }
 }

@@ -19,7 +19,7 @@ ghost use Rattle.std.specs.Prelude.{
 ghost use Rattle.set_assoc.specs.Entries.{lookup, without, replaced, touched};
 ghost use Rattle.set_assoc.specs.SetLists.{SetLists, set_of, list_of, with_list, AreSets};
 
-use crate::row::Row;
+use crate::placed_sets::PlacedSets;
 use conda_base::Line;
 use std::alloc::{AllocError, Global};
 use std::marker::Model;
@@ -29,19 +29,16 @@ use std::marker::Model;
 /// A set is a list with its most recent line first, and it has at most as many lines as there are ways.
 #[derive(Drop)]
 pub struct Sets<T: Copy> {
-    sets: u32,
-    ways: u32,
-    rows: Vec<Row<T>>,
+    lines: PlacedSets<T>,
 }
 
 impl<T: Copy> Model for Sets<T> {
-    ghost use Rattle.set_assoc.specs.SetLists.{SetLists, AreSets};
+    ghost use Rattle.set_assoc.specs.SetLists.{SetLists};
+    ghost use Rattle.set_assoc.specs.Seen.{without_places};
 
     ghost Value = { SetLists T };
 
-    ghost view = { λ s. record { ways = s.ways; lists = s.rows.items } };
-
-    ghost invariant = { λ s. AreSets s.sets s.ways s.rows.items };
+    ghost view = { λ s. without_places s.lines };
 }
 
 impl<T: Copy> Sets<T> {
@@ -52,18 +49,8 @@ impl<T: Copy> Sets<T> {
         requires few_ways { ways ≤ 8 }
         ensures { IfOk result (λ s. s ≡ record { ways = ways; lists = replicate sets [] }) }
     {
-        let mut rows = Vec::with_capacity(alloc, sets as usize)?;
-        for _ in 0..sets {
-            rows.push(Row::new(alloc)?)?;
-        }
-        Ok(Sets { sets, ways, rows })
-    }
-
-    fn set_of(&self, line: Line) -> usize
-        ensures place { result ≡ set_of self.now line }
-        ensures within { result < length self.now.lists }
-    {
-        (line.0 % self.sets) as usize
+        let lines = PlacedSets::new(alloc, sets, ways)?;
+        Ok(Sets { lines })
     }
 
     /// The value of a line. The order stays.
@@ -71,63 +58,86 @@ impl<T: Copy> Sets<T> {
         ensures value { result ≡ lookup line (list_of self.now line) }
         ensures sets { AreSets (length self.now.lists) self.now.ways self.now.lists }
     {
-        let set = self.set_of(line);
-        self.rows[set].peek(line)
+        match self.lines.find(line) {
+            Some(kept) => Some(kept.value),
+            None => None,
+        }
     }
 
     /// Gives a line that is there a new value, and hands out the old one. The order stays.
     pub fn replace(&mut self, line: Line, value: T) -> Option<T>
         ensures old { result ≡ lookup line (list_of self.old line) }
-        ensures written { self.new ≡ with_list self.old line (replaced line value (list_of self.old line)) }
+        ensures written { let list = replaced line value (list_of self.old line) in
+            self.new ≡ with_list self.old line list }
+        ensures kept { AreSets (length self.new.lists) self.new.ways self.new.lists }
     {
-        let set = self.set_of(line);
-        self.rows[set].replace(line, value)
+        match self.lines.find(line) {
+            Some(kept) => {
+                self.lines.replace(line, kept.place, value);
+                Some(kept.value)
+            }
+            None => None,
+        }
     }
 
     /// Brings a line to the front of its set. False exactly where it isn't there.
     pub fn touch(&mut self, line: Line) -> bool
         ensures found { result ≡ is_some (lookup line (list_of self.old line)) }
         ensures front { self.new ≡ with_list self.old line (touched line (list_of self.old line)) }
+        ensures kept { AreSets (length self.new.lists) self.new.ways self.new.lists }
     {
-        let set = self.set_of(line);
-        self.rows[set].touch(line)
+        match self.lines.find(line) {
+            Some(kept) => {
+                self.lines.touch(line, kept.place);
+                true
+            }
+            None => false,
+        }
     }
 
     /// Puts a line that isn't there in front of its set. The last line leaves where the set was full.
     pub fn add(&mut self, line: Line, value: T) -> Option<(Line, T)>
         requires { lookup line (list_of self.old line) ≡ None }
         ensures last { result ≡ slice_get ((line, value) ∷ list_of self.old line) self.old.ways }
-        ensures front { self.new ≡ with_list self.old line (take self.old.ways ((line, value) ∷ list_of self.old line)) }
+        ensures front { let list = (line, value) ∷ list_of self.old line in
+            self.new ≡ with_list self.old line (take self.old.ways list) }
+        ensures kept { AreSets (length self.new.lists) self.new.ways self.new.lists }
     {
-        let set = self.set_of(line);
-        let ways = self.ways as usize;
-        self.rows[set].add(line, value, ways)
+        let last = self.lines.last(line);
+        self.lines.add(line, value);
+        last.map(|(line, kept)| (line, kept.value))
     }
 
     /// Takes a line out, and hands out its value.
     pub fn remove(&mut self, line: Line) -> Option<T>
         ensures old { result ≡ lookup line (list_of self.old line) }
-        ensures removed { self.new ≡ with_list self.old line (without line (list_of self.old line)) }
+        ensures removed { let list = without line (list_of self.old line) in
+            self.new ≡ with_list self.old line list }
+        ensures kept { AreSets (length self.new.lists) self.new.ways self.new.lists }
     {
-        let set = self.set_of(line);
-        self.rows[set].remove(line)
+        match self.lines.find(line) {
+            Some(kept) => {
+                self.lines.remove(line, kept.place);
+                Some(kept.value)
+            }
+            None => None,
+        }
     }
 
     /// Whether a line's set holds as many lines as there are ways.
     pub fn is_full(&self, line: Line) -> bool
         ensures { IsTrue result ↔ (length (list_of self.now line) ≡ self.now.ways) }
     {
-        let set = self.set_of(line);
-        self.rows[set].len() == self.ways as usize
+        self.lines.is_full(line)
     }
 
     /// Takes every line out.
     pub fn clear(&mut self)
-        ensures { self.new ≡ record { ways = self.old.ways; lists = replicate (length self.old.lists) [] } }
+        ensures empty { let lists = replicate (length self.old.lists) [] in
+            self.new ≡ record { ways = self.old.ways; lists = lists } }
+        ensures kept { AreSets (length self.new.lists) self.new.ways self.new.lists }
     {
-        for row in self.rows.iter_mut() {
-            row.clear();
-        }
+        self.lines.clear();
     }
 
     /// The line at this place of a set. None exactly where the set's list is not longer than `way`.
@@ -135,7 +145,9 @@ impl<T: Copy> Sets<T> {
         requires { set < length self.now.lists }
         ensures { result ≡ slice_get (slice_index_or self.now.lists set []) way }
     {
-        self.rows[set as usize].at(way as usize)
+        self.lines
+            .at(set, way)
+            .map(|(line, kept)| (line, kept.value))
     }
 }
 
@@ -169,6 +181,30 @@ mod tests {
         sets.clear();
         assert_eq!(rt; sets.peek(Line(3)), None);
         Ok(())
+    }
+
+    #[test]
+    fn a_full_set_of_eight_ways(rt: HostRuntime) -> Result<(), Fail> {
+        let mut sets: Sets<u8> = Sets::new(rt.alloc(), 1, 8)?;
+        for line in 0..8 {
+            add_absent(&rt, &mut sets, line, 10 + line as u8);
+        }
+        assert!(rt; sets.touch(Line(2)));
+        add_absent(&rt, &mut sets, 8, 18);
+        assert_eq!(rt; sets.peek(Line(0)), None);
+        assert_eq!(rt; sets.remove(Line(5)), Some(15));
+        assert_ways(&rt, &sets, [8, 2, 7, 6, 4, 3, 1]);
+        Ok(())
+    }
+
+    fn assert_ways(rt: &impl Abort, sets: &Sets<u8>, lines: [u32; 7])
+        requires { 0 < length sets.now.lists }
+    {
+        for way in 0..7 {
+            let found = sets.at(0, way as u32).map(|(line, _)| line);
+            assert_eq!(rt; found, Some(Line(lines[way])));
+        }
+        assert_eq!(rt; sets.at(0, 7), None);
     }
 
     fn add_absent(rt: &impl Abort, sets: &mut Sets<u8>, line: u32, value: u8) {

@@ -1,13 +1,15 @@
 -- Marks on the places of a line.
-use Rattle.std.proofs.Common.{◌≡◌, ℕ, ◌+◌, ◌-◌, ◌*◌, ◌%◌, ◌^◌, ◌<◌, ◌≤◌, ◌⊎◌, ◌||◌, ⊎_elim, inl, inr, sym, ◌∙◌, ap, arith}
-use Rattle.std.specs.Int.{bit_at}
+use Rattle.std.proofs.Common.{◌≡◌, ℕ, ◌+◌, ◌-◌, ◌*◌, ◌%◌, ◌^◌, ◌<◌, ◌≤◌, ◌⊎◌, ◌||◌, ⊎_elim, inl, inr, List, length, get_or, zero, suc, eqb, cond, refl, sym, ◌∙◌, ap, arith}
+use Rattle.std.specs.Int.{bit_at, bit_not, w128}
+use Rattle.std.proofs.lemmas.Grind.{same_number_lists}
+use Rattle.conda_base.proofs.MarkLemmas.{length-mixed, get_or-mixed}
 use Rattle.std.specs.Prelude.{bit_or, bit_and, min}
 use Rattle.std.proofs.lemmas.Nat.{one_shl, shl_whole, pow-add, pow_pos}
-use Rattle.std.proofs.lemmas.Nat.Bits.{bit_at_or, bit_at_and, bit_at-lt, bit_at_mask_inside, bit_at_mask_below, bit_at_mask_above, same_from_bits}
+use Rattle.std.proofs.lemmas.Nat.Bits.{bit_at_or, bit_at_and, bit_at_not, bit_at-lt, bit_at_mask_inside, bit_at_mask_below, bit_at_mask_above, same_from_bits}
 use Rattle.std.proofs.lemmas.Bool.{cases_lt, eqb-true, eq-eqb}
 use Rattle.std.proofs.lemmas.Bool.Decides.{nat_tests}
 use Rattle.std.proofs.Math.Nat.{mul-sub, mul_comm}
-use Rattle.conda_base.specs.Marks.{is_marked}
+use Rattle.conda_base.specs.Marks.{is_marked, mixed}
 use Rattle.write_masks.specs.Marks.{is_within, Covers}
 
 -- what the code computes for the bits from `offset` up to `offset + size`
@@ -52,3 +54,22 @@ and_from_covers mask offset size run is covers =
     ⊎_elim (λ (inside : (offset ≤ k) × (k < offset + size) × (bit_at (2 ^ (offset + size) - 2 ^ offset) k ≡ 1)).
     let marked : bit_at mask k ≡ 1 = eqb-true _ _ (covers k inside.0 inside.1) in omega arith)
     (λ outside. omega arith) (bit_at_run offset size k))
+
+-- the unmarked bytes of one list and the marked ones of the other, taken either way
+turned : (mask k x y : ℕ) → mask < 2 ^ 128 → k < 128 → cond (is_marked (bit_not w128 mask) k) y x ≡ cond (is_marked mask k) x y
+turned mask k x y fits below = go (bit_at mask k) (bit_at (bit_not w128 mask) k) (bit_at_not w128 mask k fits below) (bit_at-lt mask k)
+  where
+    go : (b c : ℕ) → c ≡ 1 - b → b < 2 → cond (eqb c 1) y x ≡ cond (eqb b 1) x y
+    go zero c is small = rw is refl
+    go (suc zero) c is small = rw is refl
+    go (suc (suc b)) c is small = absurd (omega arith)
+
+pub mixed-turned : (mask : ℕ) (front back : List ℕ) → mask < 2 ^ 128 → length front ≡ 128 → length back ≡ 128 → mixed (bit_not w128 mask) back front ≡ mixed mask front back
+mixed-turned mask front back fits one two =
+    let turned_len = length-mixed (bit_not w128 mask) back front in
+    let len = length-mixed mask front back in
+    same_number_lists _ _ (omega arith)
+    (λ k within.
+    get_or-mixed (bit_not w128 mask) back front k (omega arith) ∙
+    turned mask k (get_or front k 0) (get_or back k 0) fits (omega arith) ∙
+    sym (get_or-mixed mask front back k (omega arith)))

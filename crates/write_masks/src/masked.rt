@@ -77,9 +77,7 @@ impl Masked {
         ensures mask { self.new.mask ≡ self.old.mask }
         ensures filled { self.new.filled ≡ true }
     {
-        let stored = self.bytes;
-        self.bytes = *from;
-        put_marked(&mut self.bytes, self.mask, &stored);
+        put_unmarked(&mut self.bytes, self.mask, from);
         self.filled = true;
     }
 
@@ -92,6 +90,13 @@ impl Masked {
     {
         read_value(&self.bytes, off, size)
     }
+}
+
+// Takes the bytes that aren't marked from a copy of the line.
+fn put_unmarked(bytes: &mut [u8; 128], mask: u128, from: &[u8; 128])
+    ensures { bytes.new ≡ mixed mask bytes.old from.now }
+{
+    put_marked(bytes, !mask, from);
 }
 
 // The bits of `size` bytes from `off` on.

@@ -1,7 +1,8 @@
 use Rattle.std.proofs.Common.{[], sym}
 use Rattle.std.proofs.lemmas.Result.{err_from_is_err_and}
 use Rattle.schedule_log.specs.Findings.{left_over}
-use Rattle.chip_run.proofs.GoingFacts.{last_on, line_refused, line_failed}
+use Rattle.schedule_log.proofs.ActorLemmas.{last_on}
+use Rattle.chip_run.proofs.GoingFacts.{line_refused, line_failed}
 use Rattle.chip_run.proofs.lines.run_last.Goals as goal
 
 pub line-requires-clause-has : goal.line-requires-clause-has

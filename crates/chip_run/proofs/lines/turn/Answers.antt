@@ -1,7 +1,8 @@
 use Rattle.std.proofs.Common.{◌++◌, drop, length, ◌∙◌}
 use Rattle.std.proofs.lemmas.Result.{err_from_is_err_and}
 use Rattle.schedule_log.specs.Findings.{finds}
-use Rattle.chip_run.proofs.GoingFacts.{fed_on, fed_ahead, bad_ahead, going_same, line_ran, line_refused, line_failed, line_bad}
+use Rattle.schedule_log.proofs.ActorLemmas.{fed_on}
+use Rattle.chip_run.proofs.GoingFacts.{fed_ahead, bad_ahead, going_same, line_ran, line_refused, line_failed, line_bad}
 use Rattle.chip_run.proofs.lines.turn.Goals as goal
 
 pub line-requires-clause-has : goal.line-requires-clause-has

@@ -1,6 +1,6 @@
 use Rattle.std.proofs.Common.{◌≤◌, length, arith}
 use Rattle.std.specs.Fmt.{decimal}
-use Rattle.schedule_log.proofs.DecimalLemmas.{length_decimal_wide}
+use Rattle.conda_base.proofs.DecimalLemmas.{length_decimal_wide}
 use Rattle.conda_engine.proofs.text.push_number.Goals as goal
 
 pub push_decimal-requires : goal.push_decimal-requires

@@ -1,7 +1,7 @@
 use Rattle.std.proofs.Common.{◌≡◌, ◌+◌, ◌*◌, ◌++◌, take}
 use Rattle.std.specs.List.{flat_map}
 use Rattle.arrayvec.specs.ArrayVec.{array_vec_len}
-use Rattle.run_report.specs.Texts.{hex_byte}
+use Rattle.conda_base.specs.Digits.{hex_byte}
 use Rattle.run_report.proofs.hex.push_bytes_digits.Given as goal
 
 abbrev pub invariant-loop-byte : goal.invariant-loop-byte

@@ -1,6 +1,6 @@
 use Rattle.std.proofs.Common.{◌≤◌, length, arith}
 use Rattle.std.specs.Fmt.{decimal}
-use Rattle.schedule_log.proofs.DecimalLemmas.{length_decimal_byte}
+use Rattle.conda_base.proofs.DecimalLemmas.{length_decimal_byte}
 use Rattle.run_report.proofs.line.push_number.Goals as goal
 
 pub push_decimal-requires : goal.push_decimal-requires

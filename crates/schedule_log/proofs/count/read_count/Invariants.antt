@@ -1,6 +1,6 @@
 use Rattle.std.proofs.Common.{◌≡◌, ◌≤◌, drop}
 use Rattle.std.specs.List.{list_all}
-use Rattle.schedule_log.specs.Schedule.{is_digit, number_after}
+use Rattle.conda_base.specs.Digits.{is_digit, number_after}
 use Rattle.schedule_log.proofs.count.read_count.Given as goal
 
 abbrev pub invariant-loop-digit : goal.invariant-loop-digit

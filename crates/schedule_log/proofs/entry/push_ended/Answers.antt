@@ -1,7 +1,7 @@
 use Rattle.std.proofs.Common.{◌≤◌, length, arith}
 use Rattle.std.specs.Fmt.{decimal}
 use Rattle.std.proofs.lemmas.Grind.{common_steps}
-use Rattle.schedule_log.proofs.DecimalLemmas.{length_decimal_byte, length_decimal_word}
+use Rattle.conda_base.proofs.DecimalLemmas.{length_decimal_byte, length_decimal_word}
 use Rattle.schedule_log.proofs.entry.push_ended.Goals as goal
 
 pub push-requires-2 : goal.push-requires-2

@@ -1,18 +1,22 @@
-use Rattle.set_assoc.proofs.SetLemmas.{AreSets-changed}
-use Rattle.set_assoc.proofs.EntryLemmas.{AreEntries-take}
+use Rattle.std.proofs.Common.{◌≡◌, ap, ◌∙◌, rules}
+use Rattle.std.specs.Option.{option_map}
+use Rattle.set_assoc.specs.Places.{placed}
 use Rattle.set_assoc.specs.Entries.{lookup}
 use Rattle.set_assoc.specs.SetLists.{list_of}
-use Rattle.std.proofs.lemmas.List.{get_or_default}
-use Rattle.std.proofs.Common.{◌≡◌, ◌%◌, ◌<◌, ◌∷◌, [], None, length, get_or, ap, ◌∙◌, refl, rules}
+use Rattle.set_assoc.specs.Seen.{without_places}
+use Rattle.set_assoc.proofs.SeenFacts.{absent_before, sets_seen, added_seen, last_seen}
 use Rattle.set_assoc.proofs.sets.Sets.add.Goals as goal
 
-pub invariant_of-self : goal.invariant_of-self
-invariant_of-self g c =
-    let placed : c.args.line.0 % c.self.inside.sets ≡ c.set_of-set.result = search rules in
-    let within : c.set_of-set.result < length c.self.inside.rows.items = search rules in
-    let list : get_or c.self.inside.rows.items c.set_of-set.result [] ≡ list_of c.args.self.now c.args.line =
-    ap (λ n. get_or c.self.inside.rows.items n []) c.set_of-set.ensures.place ∙ rw (← c.self.view_is) refl in
-    let absent : lookup c.args.line c.index_mut.result.now ≡ None =
-    ap (λ e. lookup c.args.line e) (c.index_mut.ensures.value ∙ get_or_default _ _ _ [] within ∙ list) ∙ c.requires in
-    AreSets-changed _ _ _ _ c.index_mut.result.now _ c.self.invariant (search rules) c.index_mut.ensures.value
-    (λ are. rw c.add.ensures.front (AreEntries-take _ _ _ ((c.args.line, c.args.value) ∷ c.index_mut.result.now) (placed, absent, are))) (search rules)
+pub add-requires : goal.add-requires
+add-requires g c = absent_before c.self.inside.lines c.args.line (ap (λ s. lookup c.args.line (list_of s c.args.line)) c.self.view_is ∙ c.requires)
+
+pub returns-clause-last : goal.returns-clause-last
+returns-clause-last g c =
+    let mapped : c.map.result ≡ option_map (λ e. (e.0, e.1.value)) c.last-last.result = search rules in
+    rw (← c.self.view_is) (mapped ∙ ap (λ o. option_map (λ e. (e.0, e.1.value)) o) c.last-last.ensures.last ∙ last_seen c.self.inside.lines c.args.line c.args.value c.last-last.ensures.kept.sets.some_ways)
+
+pub returns-clause-front : goal.returns-clause-front
+returns-clause-front g c = rw (← c.self.view_is) (ap (λ s. without_places s) c.add.ensures.front ∙ added_seen c.self.inside.lines c.args.line (placed c.args.value c.add.result))
+
+pub returns-clause-kept : goal.returns-clause-kept
+returns-clause-kept g c = sets_seen _ c.add.ensures.kept.sets

@@ -1,0 +1,17 @@
+pub mod Balance
+pub mod Bounded
+pub mod Design
+pub mod Entries
+pub mod Facts
+pub mod Flushes
+pub mod Fresh
+pub mod Notes
+pub mod Owners
+pub mod Places
+pub mod Rollbacks
+pub mod Rules
+pub mod Runs
+pub mod Sound
+pub mod Untouched
+pub mod Uses
+pub mod Worlds

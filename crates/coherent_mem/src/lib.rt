@@ -1,0 +1,10 @@
+//! The hart caches under the directory as one memory, which its users see as flat bytes.
+#![tactic(auto)]
+
+mod coherent;
+mod laws;
+#[cfg(test)]
+mod tests;
+
+pub use coherent::Coherent;
+pub use laws::atomics_store_once;

@@ -1,0 +1,7 @@
+pub mod BackFacts
+pub mod CommitFacts
+pub mod CopyFacts
+pub mod MergeFacts
+pub mod MergeSteps
+pub mod RangeFacts
+pub mod WorldFacts

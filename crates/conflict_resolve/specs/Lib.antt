@@ -1,0 +1,5 @@
+pub mod Backs
+pub mod Commits
+pub mod InRange
+pub mod Merges
+pub mod Worlds

@@ -1,0 +1,81 @@
+-- A kernel that adds to a word by an atomic.
+use Rattle.std.specs.Prelude.{ℕ, List, [], ◌∷◌, ◌++◌, replicate}
+use Rattle.conda_base.specs.declared.actor.Actor.{Actor}
+use Rattle.conda_base.specs.declared.actor.Actor.TheVariants as Actor_is
+use Rattle.conda_base.specs.declared.Mesi.TheVariants.{M}
+use Rattle.schedule_log.specs.declared.entry.Entry.TheVariants.{Step, Open, Spec, Commit, Back}
+use Rattle.traffic_trace.specs.declared.note.Kind.TheVariants as Kind_is
+use Rattle.line_memory.specs.Notes.{note_of}
+use Rattle.chip_laws.specs.Design.{Design}
+use Rattle.laws_example.specs.Configs.{plain}
+use Rattle.laws_example.specs.Programs.{design_of}
+use Rattle.laws_example.specs.Runs.{ComesTo}
+
+-- its words
+abbrev pub words : List ℕ
+words =
+    (0x00000513  -- addi x10, x0, 0
+    ∷ 0x000005B7  -- lui x11, 0
+    ∷ 0x0C058593  -- addi x11, x11, 192
+    ∷ 0x04000613  -- addi x12, x0, 64
+    ∷ 0x3E800893  -- addi x17, x0, 1000
+    ∷ 0x00000073  -- ecall
+    ∷ 0x00062023  -- sw x0, 0(x12)
+    ∷ 0x3E900893  -- addi x17, x0, 1001
+    ∷ 0x00000073  -- ecall
+    ∷ 0x05D00893  -- addi x17, x0, 93
+    ∷ 0x00000073  -- ecall
+    ∷ [])
+    ++ replicate 5 0
+    ++ (0x00A522AF  -- amoadd.w x5, x10, (x10)
+    ∷ 0x3EC00893  -- addi x17, x0, 1004
+    ∷ 0x00000073  -- ecall
+    ∷ [])
+
+unfoldable pub design : Design
+design = design_of plain words
+
+-- the portion loads and stores the line, and commits
+abbrev pub events : List Actor
+events =
+    replicate 6 (Actor_is.Hart 0)
+    ++ replicate 5 (Actor_is.Core 0)
+
+abbrev pub AnAtomic : Type 0
+AnAtomic =
+    ComesTo design events (record {
+      order =
+          replicate 6 (Step 0)
+          ++ (Open 0 ∷ [])
+          ++ replicate 3 (Spec 0)
+          ++ (Commit 0 3 1 ∷ []);
+      notes =
+          note_of Kind_is.CoreFill 0 (record { 0 = 1 })
+          ∷ note_of Kind_is.Merge 0 (record { 0 = 1 })
+          ∷ [];
+      tags = [];
+      bytes = 64 ∷ replicate 63 0;
+    })
+
+-- a hart stores to the line before the portion ends
+abbrev pub stale_events : List Actor
+stale_events =
+    replicate 6 (Actor_is.Hart 0)
+    ++ replicate 2 (Actor_is.Core 0)
+    ++ replicate 1 (Actor_is.Hart 0)
+    ++ replicate 3 (Actor_is.Core 0)
+
+abbrev pub AStaleAtomic : Type 0
+AStaleAtomic =
+    ComesTo design stale_events (record {
+      order =
+          replicate 6 (Step 0)
+          ++ (Open 0 ∷ Spec 0 ∷ Step 0 ∷ Spec 0 ∷ [])
+          ++ (Spec 0 ∷ Back 0 3 1 ∷ []);
+      notes =
+          note_of Kind_is.CoreFill 0 (record { 0 = 1 })
+          ∷ note_of Kind_is.Fill 0 (record { 0 = 1 })
+          ∷ [];
+      tags = (record { 0 = 1 }, M) ∷ [];
+      bytes = replicate 64 0;
+    })

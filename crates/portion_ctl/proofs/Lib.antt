@@ -1,0 +1,10 @@
+pub mod AccessFacts
+pub mod ActFacts
+pub mod ByteFacts
+pub mod CacheFacts
+pub mod ExchangeFacts
+pub mod LoadFacts
+pub mod PutFacts
+pub mod SignatureFacts
+pub mod StandFacts
+pub mod WalkFacts

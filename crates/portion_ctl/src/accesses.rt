@@ -1,0 +1,104 @@
+// Loads and stores of a try.
+ghost use Rattle.std.specs.Prelude.{◌≡◌, ◌+◌, ◌%◌, ◌≤◌, ◌==◌, ◌&&◌, ◌⊎◌, ◌↔◌, true, false, not, Some, None, if◌then◌else◌};
+ghost use Rattle.conda_base.specs.Lines.{IsAccessSize, line_offset};
+ghost use Rattle.conda_base.specs.LineLists.{line_at};
+ghost use Rattle.bloom_sig.specs.Signatures.{inserted, is_full_for, is_member};
+ghost use Rattle.nda_cache.specs.Tried.{HasRoom, IsTried, Writes};
+ghost use Rattle.line_memory.specs.Notes.{all_noted};
+ghost use Rattle.try_runs.specs.Fills.{corefill_notes};
+ghost use Rattle.portion_ctl.specs.Bodies.{IsAccessIn, Puts};
+ghost use Rattle.portion_ctl.specs.Looks.{HasValue, IsRoom, Looks, NeedsFill, Takes, end_of_load, take_notes, with_fill};
+
+use bloom_sig::Signature;
+use conda_base::Line;
+use line_memory::Backing;
+use nda_cache::{Look, NdaCache};
+use traffic_trace::{Kind, Note, Traffic};
+
+// The cause that stands against a load.
+pub fn load_end(look: Look, reads: &Signature, limit: u32, l: Line) -> Option<u8>
+    ensures { result ≡ end_of_load look (is_full_for reads.now l limit) }
+{
+    match look {
+        Look::Known(_) => None,
+        Look::Missing => {
+            if reads.is_new(l) && reads.fill() == limit {
+                Some(5)
+            } else {
+                None
+            }
+        }
+        Look::Full => Some(4),
+    }
+}
+
+// Takes memory's copy of a line that a load needs, and gives the load's value.
+pub fn fetch<B: Backing>(
+    core: u8,
+    cache: &mut NdaCache,
+    mem: &B,
+    log: &mut Traffic,
+    l: Line,
+    addr: u32,
+    size: u8,
+) -> u32
+    requires access { IsAccessIn (B.shown mem.now) cache.old.line_bytes addr size }
+    requires line { l ≡ line_at cache.old.line_bytes addr }
+    requires needed { NeedsFill cache.old addr size }
+    ensures cache { cache.new ≡ with_fill (B.shown mem.now) cache.old l }
+    ensures value { HasValue cache.new addr size result }
+    ensures notes { log.new ≡ all_noted log.old (corefill_notes core (Some l)) }
+{
+    let mut copy = [0; 128];
+    let _whole_lines = mem.line_bytes();
+    mem.copy(l, &mut copy);
+    cache.fill(l, &copy);
+    log.note(Note {
+        kind: Kind::CoreFill,
+        who: core,
+        line: l,
+    });
+    cache.read(addr, size)
+}
+
+// Makes a load that no cause stands against.
+pub fn take<B: Backing>(
+    core: u8,
+    cache: &mut NdaCache,
+    reads: &mut Signature,
+    mem: &B,
+    log: &mut Traffic,
+    look: Look,
+    l: Line,
+    addr: u32,
+    size: u8,
+) -> u32
+    requires access { IsAccessIn (B.shown mem.now) cache.old.line_bytes addr size }
+    requires line { l ≡ line_at cache.old.line_bytes addr }
+    requires looks { Looks cache.old addr size look }
+    requires room { IsRoom look }
+    ensures takes { Takes (B.shown mem.now) cache.old reads.old l addr size look cache.new
+        reads.new result }
+    ensures notes { log.new ≡ all_noted log.old (take_notes core l look) }
+{
+    match look {
+        Look::Known(value) => value,
+        Look::Missing => {
+            reads.insert(l);
+            fetch(core, cache, mem, log, l, addr, size)
+        }
+        Look::Full => 0,
+    }
+}
+
+// Stores a number into a line that there is room for.
+pub fn put(cache: &mut NdaCache, l: Line, addr: u32, size: u8, value: u32)
+    requires size { IsAccessSize size }
+    requires aligned { addr % size ≡ 0 }
+    requires line { l ≡ line_at cache.old.line_bytes addr }
+    requires room { HasRoom cache.old l }
+    ensures { Puts cache.old cache.new addr size value }
+{
+    let _room = cache.room(l);
+    cache.write(addr, size, value);
+}

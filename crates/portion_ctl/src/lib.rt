@@ -1,0 +1,16 @@
+//! A near-data core's portion: a kernel's acts on memory's own copies of lines, held back until
+//! they are ruled on.
+#![tactic(auto)]
+
+mod accesses;
+mod acts;
+mod body;
+mod exchange;
+mod portion;
+#[cfg(test)]
+mod tests;
+mod walks;
+
+pub use portion::{
+    Acted, Clash, Clear, Ended, Flushed, Flushing, Kept, Open, Ready, Undone, Verdict,
+};

@@ -1,0 +1,16 @@
+pub mod CuttingLemmas
+pub mod RegisterLemmas
+pub mod OperandLemmas
+pub mod LineLemmas
+pub mod GrammarLemmas
+pub mod LabelLemmas
+pub mod NumberLemmas
+pub mod TextLemmas
+pub mod InstrTextLemmas
+pub mod LinesLemmas
+pub mod FieldLemmas
+pub mod HexLemmas
+pub mod AssembleLemmas
+pub mod ProgramLemmas
+pub mod RawLemmas
+pub mod ProgramTextLemmas

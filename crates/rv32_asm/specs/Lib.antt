@@ -1,0 +1,12 @@
+pub mod Pieces
+pub mod Cutting
+pub mod Grammar
+pub mod Reading
+pub mod Views
+pub mod Labels
+pub mod Assembled
+pub mod Laws
+pub mod Sources
+pub mod Integers
+pub mod Faults
+pub mod Programs

@@ -1,0 +1,11 @@
+pub mod CachedFacts
+pub mod EndFacts
+pub mod HartLines
+pub mod LineBytes
+pub mod LineFacts
+pub mod PortionFacts
+pub mod Serial
+pub mod SerialLemmas
+pub mod SerialLines
+pub mod StoreFacts
+pub mod TryFacts
