@@ -65,7 +65,8 @@ fn join_vectors(words: &mut [u64], others: &[u64], vectors: usize)
 fn join_vector(words: &mut [u64], others: &[u64], at: usize)
     requires same { length words.old ≡ length others.now }
     requires room { at + 4 ≤ length words.old }
-    ensures { words.new ≡ put_chunk at words.old (zip2 bit_or (chunk at 4 words.old) (chunk at 4 others.now)) }
+    ensures { words.new ≡ put_chunk at words.old
+        (zip2 bit_or (chunk at 4 words.old) (chunk at 4 others.now)) }
 {
     let joined = u64x4::from_slice(&words[at..]) | u64x4::from_slice(&others[at..]);
     joined.copy_to_slice(&mut words[at..]);

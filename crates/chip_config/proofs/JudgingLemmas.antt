@@ -1,6 +1,6 @@
 -- From numbers in range to a configuration, and from bytes to data.
-use Rattle.std.proofs.Common.{◌≡◌, ℕ, ◌%◌, ◌<◌, ◌≤◌, ◌==◌, ◌&&◌, Bool, true, false, List, [], ◌∷◌, length, get_or, zero, suc, refl, sym, ◌∙◌, ap, subst, arith, inr}
-use Rattle.std.specs.Prelude.{Option, Some, None, Result, Ok, Err, IfOk, IfErr, MatchResult, IsTrue, IsUtf8, ◌⊎◌, slice_index, nat_le}
+use Rattle.std.proofs.Common.{◌≡◌, ℕ, ◌%◌, ◌<◌, ◌≤◌, ◌==◌, ◌&&◌, Bool, true, false, List, [], ◌∷◌, length, get_or, zero, suc, refl, sym, ◌∙◌, ap, arith, inr}
+use Rattle.std.specs.Prelude.{Option, Some, None, Result, Ok, Err, IfOk, IfErr, MatchResult, IsTrue, IsUtf8, ◌⊎◌, nat_le}
 use Rattle.std.specs.Int.{is_power_of_two}
 use Rattle.std.specs.Str.{is_utf8}
 use Rattle.std.proofs.lemmas.Str.{IsUtf8-from_is_utf8, is_utf8-from_IsUtf8}
@@ -13,8 +13,8 @@ use Rattle.chip_config.specs.declared.config.Config.{Config}
 use Rattle.chip_config.specs.declared.fault.ConfigFault.{ConfigFault}
 use Rattle.chip_config.specs.declared.fault.ConfigFault.TheVariants as Fault_is
 use Rattle.chip_config.specs.declared.keys.Range.TheVariants.{Between, PowerUpTo, MultipleOf64}
-use Rattle.chip_config.specs.Keys.{Key, keys, within, harts, mem_base, mem_bytes, line_bytes}
-use Rattle.chip_config.specs.Settings.{are_keys, configured, data_of, first_outside, first_without, memory_fault, number_of, numbers_of, settings, settings_of, unless_fault, AreRanged}
+use Rattle.chip_config.specs.Keys.{Key, keys, within, harts}
+use Rattle.chip_config.specs.Settings.{are_keys, configured, data_of, first_outside, first_without, memory_fault, numbers_of, settings, settings_at, settings_in, settings_of, unless_fault, AreRanged, Settings}
 
 and_true : (a b : Bool) → (a && b) ≡ true → (a ≡ true) × (b ≡ true)
 and_true true b h = (refl, h)
@@ -54,13 +54,12 @@ unfolding keys
 sixteen_keys = refl
 
 -- sixteen numbers of which none is outside are in their ranges
-pub ranged : (n : List ℕ) → length n ≡ 16 → first_outside keys n ≡ None → AreRanged n
+pub ranged : (n : List ℕ) → length n ≡ 16 → first_outside keys n ≡ None → AreRanged (settings_at n)
 unfolding keys
 ranged n long none =
     let base = multiple 0 4294967232 (get_or n 2 0) (within_at keys n 2 harts none (omega arith) (omega arith)) in
     let bytes = multiple 4096 67108864 (get_or n 3 0) (within_at keys n 3 harts none (omega arith) (omega arith)) in
     record {
-      sixteen = long;
       harts = between 1 8 (get_or n 0 0) (within_at keys n 0 harts none (omega arith) (omega arith));
       cores = between 1 4 (get_or n 1 0) (within_at keys n 1 harts none (omega arith) (omega arith));
       mem_base = (base.0, base.2);
@@ -84,32 +83,18 @@ pub sixteen_numbers : (value : Data) → length (numbers_of value) ≡ 16
 unfolding keys
 sixteen_numbers value = refl
 
-base_at : (value : Data) → slice_index (numbers_of value) 2 ≡ number_of value mem_base
-unfolding keys
-base_at value = refl
-
-bytes_at : (value : Data) → slice_index (numbers_of value) 3 ≡ number_of value mem_bytes
-unfolding keys
-bytes_at value = refl
-
-line_at : (value : Data) → slice_index (numbers_of value) 15 ≡ number_of value line_bytes
-unfolding keys
-line_at value = refl
-
-judged_all : (value : Data) (members : Members) → as_object value ≡ Some members → are_keys members ≡ true → first_without value keys ≡ None → first_outside keys (numbers_of value) ≡ None → settings_of value ≡ unless_fault (memory_fault (number_of value mem_base) (number_of value mem_bytes) (number_of value line_bytes)) (numbers_of value)
+judged_all : (value : Data) (members : Members) → as_object value ≡ Some members → are_keys members ≡ true → first_without value keys ≡ None
+    → first_outside keys (numbers_of value) ≡ None → settings_of value ≡ unless_fault (memory_fault (settings_in value)) (settings_in value)
 judged_all value members object known each inside = rw object (rw known (rw each (rw inside refl)))
 
 -- data with no other fault is judged by its memory
-pub judged : (value : Data) (members : Members) (n : List ℕ) → as_object value ≡ Some members → are_keys members ≡ true → first_without value keys ≡ None → n ≡ numbers_of value → first_outside keys n ≡ None → settings_of value ≡ unless_fault (memory_fault (slice_index n 2) (slice_index n 3) (slice_index n 15)) n
+pub judged : (value : Data) (members : Members) (n : List ℕ) → as_object value ≡ Some members → are_keys members ≡ true → first_without value keys ≡ None
+    → n ≡ numbers_of value → first_outside keys n ≡ None → settings_of value ≡ unless_fault (memory_fault (settings_at n)) (settings_at n)
 judged value members n object known each is inside =
-    let P : List ℕ → Type 0 = λ m. settings_of value ≡ unless_fault (memory_fault (slice_index m 2) (slice_index m 3) (slice_index m 15)) m in
-    let whole = judged_all value members object known each (ap (first_outside keys) (sym is) ∙ inside) in
-    subst P (sym is) (whole
-    ∙ ap (λ (base : ℕ). unless_fault (memory_fault base (number_of value mem_bytes) (number_of value line_bytes)) (numbers_of value)) (sym (base_at value))
-    ∙ ap (λ (bytes : ℕ). unless_fault (memory_fault (slice_index (numbers_of value) 2) bytes (number_of value line_bytes)) (numbers_of value)) (sym (bytes_at value))
-    ∙ ap (λ (line : ℕ). unless_fault (memory_fault (slice_index (numbers_of value) 2) (slice_index (numbers_of value) 3) line) (numbers_of value)) (sym (line_at value)))
+    judged_all value members object known each (ap (first_outside keys) (sym is) ∙ inside)
+    ∙ ap (λ (m : List ℕ). unless_fault (memory_fault (settings_at m)) (settings_at m)) (sym is)
 
-pub answer_of : (value : Data) (fault : Option ConfigFault) (n : List ℕ) (r : Result Config ConfigFault) → settings_of value ≡ unless_fault fault n → MatchResult r (λ c. (fault ≡ None) × (settings c ≡ n)) (λ f. fault ≡ Some f) → MatchResult r (λ c. settings_of value ≡ Ok (settings c)) (λ f. settings_of value ≡ Err f)
+pub answer_of : (value : Data) (fault : Option ConfigFault) (n : Settings) (r : Result Config ConfigFault) → settings_of value ≡ unless_fault fault n → MatchResult r (λ c. (fault ≡ None) × (settings c ≡ n)) (λ f. fault ≡ Some f) → MatchResult r (λ c. settings_of value ≡ Ok (settings c)) (λ f. settings_of value ≡ Err f)
 answer_of value fault n (Ok c) is h = is ∙ ap (λ f. unless_fault f n) h.0 ∙ ap Ok (sym h.1)
 answer_of value fault n (Err f) is h = is ∙ ap (λ g. unless_fault g n) h
 

@@ -1,2 +1,3 @@
 pub mod JudgingLemmas
+pub mod RangeFacts
 pub mod ReadingLemmas

@@ -1,5 +1,5 @@
 -- What reading a configuration uses of its definitions.
-use Rattle.std.proofs.Common.{◌≡◌, ℕ, ◌+◌, ◌%◌, ◌<◌, ◌≤◌, ◌&&◌, ◌||◌, Bool, true, false, List, [], ◌∷◌, ◌++◌, length, take, drop, get_or, map, zero, suc, refl, sym, ◌∙◌, ap, arith, add-one, drop-cons, append_assoc, append-nil, set}
+use Rattle.std.proofs.Common.{◌≡◌, ℕ, ◌+◌, ◌%◌, ◌<◌, ◌≤◌, ◌&&◌, ◌||◌, Bool, true, false, List, [], ◌∷◌, ◌++◌, length, take, drop, get_or, map, suc, refl, sym, ◌∙◌, ap, arith, add-one, drop-cons, append_assoc, append-nil, set}
 use Rattle.std.specs.Prelude.{Some, None, String, string_bytes, if◌then◌else◌, is_some, unwrap_or}
 use Rattle.std.specs.List.{list_any}
 use Rattle.std.specs.Str.{bytes_eq}
@@ -13,7 +13,7 @@ use Rattle.serde_json.specs.View.{members_view}
 use Rattle.chip_config.specs.declared.keys.Entry.{Entry}
 use Rattle.chip_config.specs.declared.fault.ConfigFault.TheVariants.{NotNumber, OutOfRange}
 use Rattle.chip_config.specs.Keys.{Key, keys, keys_from, is_key, within}
-use Rattle.chip_config.specs.Settings.{are_keys, first_outside, first_without, is_memory, memory_fault, number_of, number_or}
+use Rattle.chip_config.specs.Settings.{are_keys, first_outside, first_without, is_memory, memory_fault, number_of, number_or, Settings}
 
 -- names that are keys
 abbrev pub are_names : List (String Global) → Bool
@@ -43,29 +43,14 @@ pub length_table : (table : List Entry) → keys_from 1 table ≡ keys → lengt
 length_table table is = sym (length_keys_from table 1) ∙ ap length is ∙ length_keys
 
 -- memory with no fault
-pub memory_fine : (base bytes line : ℕ) → base + bytes ≤ 4294967296 → base % line ≡ 0 → bytes % line ≡ 0 → memory_fault base bytes line ≡ None
-memory_fine base bytes line ends whole_base whole_bytes =
-    let is : is_memory base bytes line ≡ true = grind (arith, nat_tests) in rw is refl
+pub memory_fine : (s : Settings) → s.mem_base + s.mem_bytes ≤ 4294967296 → s.mem_base % s.line_bytes ≡ 0
+    → s.mem_bytes % s.line_bytes ≡ 0 → memory_fault s ≡ None
+memory_fine s ends whole_base whole_bytes =
+    let is : is_memory s ≡ true = grind (arith, nat_tests) in rw is refl
 
 -- a list from a place on
 pub drop_more : {A : Type 0} (xs : List A) (i : ℕ) (d : A) → i < length xs → drop i xs ≡ get_or xs i d ∷ drop (i + 1) xs
 drop_more xs i d below = rw add-one (drop-cons xs i d below)
-
--- the numbers at so many places, from this one on
-spread : ℕ → ℕ → List ℕ → List ℕ
-spread place zero numbers = []
-spread place (suc more) numbers = get_or numbers place 0 ∷ spread (place + 1) more numbers
-
-spread_all : (more place : ℕ) (numbers : List ℕ) → length numbers ≡ place + more → spread place more numbers ≡ drop place numbers
-unfolding spread
-spread_all zero place numbers long = sym (drop_all place numbers (omega arith))
-spread_all (suc more) place numbers long =
-    ap (λ rest. get_or numbers place 0 ∷ rest) (spread_all more (place + 1) numbers (omega arith)) ∙ sym (drop_more numbers place 0 (omega arith))
-
--- a list of sixteen numbers, one by one
-pub sixteen_of : (n : List ℕ) → length n ≡ 16 → get_or n 0 0 ∷ get_or n 1 0 ∷ get_or n 2 0 ∷ get_or n 3 0 ∷ get_or n 4 0 ∷ get_or n 5 0 ∷ get_or n 6 0 ∷ get_or n 7 0 ∷ get_or n 8 0 ∷ get_or n 9 0 ∷ get_or n 10 0 ∷ get_or n 11 0 ∷ get_or n 12 0 ∷ get_or n 13 0 ∷ get_or n 14 0 ∷ get_or n 15 0 ∷ [] ≡ n
-unfolding spread
-sixteen_of n long = spread_all 16 0 n long
 
 -- the range of the key at a place
 outside_at : (table : List Entry) (numbers : List ℕ) (i : ℕ) (d : Entry) → i < length table → i < length numbers → first_outside (keys_from (i + 1) (drop i table)) (drop i numbers) ≡ (if within (get_or table i d).range (get_or numbers i 0) then first_outside (keys_from (i + 1 + 1) (drop (i + 1) table)) (drop (i + 1) numbers) else Some (OutOfRange (i + 1) (get_or numbers i 0)))

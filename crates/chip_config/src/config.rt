@@ -61,11 +61,11 @@ pub struct Config {
 }
 
 impl Config {
-    ghost use Rattle.chip_config.specs.Settings.{plain_numbers, settings};
+    ghost use Rattle.chip_config.specs.Settings.{plain_settings, settings};
 
     /// The configuration in which every key is missing.
     pub fn plain() -> Config
-        ensures { settings result ≡ plain_numbers }
+        ensures { settings result ≡ plain_settings }
     {
         Config {
             harts: 1,

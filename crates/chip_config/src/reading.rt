@@ -1,11 +1,11 @@
 // From bytes to a configuration.
-ghost use Rattle.std.specs.Prelude.{◌≡◌, ◌⊎◌, ◌<◌, Some, None, Ok, Err, IfOk, IfErr, IsSome, MatchResult, length, slice_index};
+ghost use Rattle.std.specs.Prelude.{◌≡◌, ◌⊎◌, ◌<◌, Some, None, Ok, Err, IfOk, IfErr, IsSome, MatchResult, length};
 ghost use Rattle.std.specs.List.{list_any};
 ghost use Rattle.std.specs.Str.{bytes_eq};
 ghost use Rattle.serde_json.specs.View.{view, members_view};
 ghost use Rattle.serde_json.specs.Find.{get};
 ghost use Rattle.chip_config.specs.Keys.{keys, keys_from};
-ghost use Rattle.chip_config.specs.Settings.{are_keys, configured, first_outside, first_without, memory_fault, number_or, numbers_of, settings, settings_of, AreRanged};
+ghost use Rattle.chip_config.specs.Settings.{are_keys, configured, first_outside, first_without, memory_fault, number_or, numbers_of, settings, settings_at, settings_of, AreRanged};
 
 use crate::config::Config;
 use crate::fault::ConfigFault;
@@ -74,9 +74,11 @@ fn find_outside(table: &[Entry], numbers: &[u64; 16]) -> Option<ConfigFault>
 
 // The configuration of numbers that are in range, unless their memory isn't one.
 fn configure(numbers: &[u64; 16]) -> Result<Config, ConfigFault>
-    requires { AreRanged numbers.now }
-    ensures { let fault = memory_fault (slice_index numbers.now 2) (slice_index numbers.now 3) (slice_index numbers.now 15) in
-        MatchResult result (λ config. (fault ≡ None) × (settings config ≡ numbers.now)) (λ f. fault ≡ Some f) }
+    requires { AreRanged (settings_at numbers.now) }
+    ensures { MatchResult result
+        (λ config. (memory_fault (settings_at numbers.now) ≡ None)
+        × (settings config ≡ settings_at numbers.now))
+        (λ f. memory_fault (settings_at numbers.now) ≡ Some f) }
 {
     let base = numbers[2] as u32;
     let bytes = numbers[3] as u32;

@@ -1,51 +1,39 @@
--- The outcome of an event of a hart that runs, by its plan.
-use Rattle.std.proofs.Common.{◌≡◌, ℕ, true, false, [], refl, Ok, Err}
-use Rattle.std.specs.Prelude.{slice_get}
-use Rattle.rv32_hart.specs.declared.regs.Trap.{Trap}
-use Rattle.rv32_hart.specs.declared.act.Planned.{Planned}
-use Rattle.rv32_hart.specs.Act.{plan_of, after, is_call_access}
-use Rattle.rv32_hart.specs.Code.{CodeView}
-use Rattle.schedule_log.specs.declared.entry.Entry.TheVariants as Entry_is
-use Rattle.offload_calls.specs.declared.status.HartStatus.{HartStatus}
-use Rattle.offload_calls.specs.declared.status.HartStatus.TheVariants as Hart_is
-use Rattle.offload_calls.specs.Calls.{waits}
-use Rattle.offload_calls.specs.Stores.{overlay, byte_at}
-use Rattle.offload_calls.specs.Effects.{span_of_access, stores_of_access, loaded}
-use Rattle.offload_calls.specs.HartAct.{hart_runs, call_effect, plan_effect, waits_next}
-use Rattle.chip_core.specs.Acts.{Parts, event_outcome, after_call}
+-- One event more in the list that a chip stands for.
+use Rattle.std.proofs.Common.{◌≡◌, ℕ, List, [], ◌∷◌, ◌++◌, IsTrue, sym, ap, ◌∙◌, subst, refl}
+use Rattle.std.specs.Prelude.{nat_lt}
+use Rattle.std.specs.List.{AllByRecursion}
+use Rattle.std.proofs.lemmas.Bool.{ltb-true}
+use Rattle.conda_base.specs.declared.actor.Actor.{Actor}
+use Rattle.conda_base.specs.declared.actor.Actor.TheVariants as Actor_is
+use Rattle.chip_config.specs.Settings.{Settings}
+use Rattle.chip_laws.specs.Design.{Design, IsActorOf}
+use Rattle.chip_laws.specs.Rules.{World}
+use Rattle.chip_laws.specs.Worlds.{world}
+use Rattle.chip_laws.proofs.EntryLaws.{grows}
+use Rattle.schedule_log.specs.declared.entry.Entry.{Entry}
+use Rattle.chip_core.specs.Views.{ChipView, has}
+use Rattle.chip_core.specs.Shows.{Shows, Stands}
+use Rattle.chip_core.specs.Turns.{IsReached, Turns}
 
-pub trap_outcome : (code : CodeView) (h : ℕ) (p : Parts) (trap : Trap) → hart_runs p.hart.status ≡ true → plan_of code p.hart.regs ≡ Err trap
-    → event_outcome code h p
-    ≡ record { entry = Entry_is.Step h; parts = record p { hart = record { regs = p.hart.regs; status = Hart_is.Trapped trap } }; puts = [] }
-unfolding waits_next plan_effect
-trap_outcome code h p trap runs plan = rw (runs, plan) refl
+pub reached : (d : Design) (c : ChipView) (events : List Actor) → Stands d c events → IsReached d (world d events)
+reached d c events s = record { is_design = s.is_design; events = events; actors = s.actors; leads = refl }
 
--- a plan with an access that is no call
-pub plain_outcome : (code : CodeView) (h : ℕ) (p : Parts) (planned : Planned) → hart_runs p.hart.status ≡ true → plan_of code p.hart.regs ≡ Ok planned
-    → is_call_access planned.access ≡ false
-    → event_outcome code h p
-    ≡ (let value = loaded (byte_at code.base p.memory) (span_of_access planned.access) in
-    record {
-      entry = Entry_is.Step h;
-      parts = record p { memory = overlay code.base p.memory (stores_of_access value planned.access); hart = record { regs = after p.hart.regs planned.instr value; status = Hart_is.Run } };
-      puts = [];
-    })
-unfolding waits_next plan_effect
-plain_outcome code h p planned runs plan other = rw (runs, plan, other) refl
+actor-of : (d : Design) (c : ChipView) (a : Actor) → c.config ≡ d.config → IsTrue (has c a) → IsActorOf d a
+actor-of d c (Actor_is.Hart h) same there = ltb-true h d.config.harts (subst (λ (x : Settings). IsTrue (nat_lt h x.harts)) same there)
+actor-of d c (Actor_is.Core j) same there = ltb-true j d.config.cores (subst (λ (x : Settings). IsTrue (nat_lt j x.cores)) same there)
 
-pub waiting_outcome : (code : CodeView) (h : ℕ) (p : Parts) (planned : Planned) → hart_runs p.hart.status ≡ true → plan_of code p.hart.regs ≡ Ok planned
-    → is_call_access planned.access ≡ true → waits (slice_get p.statuses) p.hart.regs ≡ true
-    → event_outcome code h p ≡ record { entry = Entry_is.Waits h; parts = p; puts = [] }
-unfolding waits_next plan_effect
-waiting_outcome code h p planned runs plan call waiting = rw (runs, plan, call, waiting) refl
+all-push : (P : Actor → Type 0) (xs : List Actor) (a : Actor) → AllByRecursion P xs → P a → AllByRecursion P (xs ++ a ∷ [])
+all-push P [] a h p = (p, tt)
+all-push P (x ∷ xs) a h p = (h.0, all-push P xs a h.1 p)
 
-pub served_outcome : (code : CodeView) (h : ℕ) (p : Parts) (planned : Planned) → hart_runs p.hart.status ≡ true → plan_of code p.hart.regs ≡ Ok planned
-    → is_call_access planned.access ≡ true → waits (slice_get p.statuses) p.hart.regs ≡ false
-    → event_outcome code h p ≡ record { entry = Entry_is.Step h; parts = after_call p; puts = (call_effect (slice_get p.statuses) p.hart.regs).puts }
-unfolding waits_next plan_effect
-served_outcome code h p planned runs plan call goes_on = rw (runs, plan, call, goes_on) refl
+pub stands-more : (d : Design) (c new : ChipView) (events : List Actor) (a : Actor) (entry : Entry) (puts : List ℕ) → IsTrue (has c a) → Stands d c events
+    → Turns d (world d events) a new entry puts → Stands d new (events ++ a ∷ [])
+stands-more d c new events a entry puts there s t = record {
+  is_design = s.is_design;
+  actors = all-push (IsActorOf d) events a s.actors (actor-of d c a s.shows.config there);
+  shows = subst (Shows d new) (sym (grows d events a).world_after) t.shows;
+}
 
-pub status_of_running : (status : HartStatus) → hart_runs status ≡ true → status ≡ Hart_is.Run
-status_of_running Hart_is.Run runs = refl
-status_of_running (Hart_is.Exit value) runs = cc
-status_of_running (Hart_is.Trapped trap) runs = cc
+pub output-more : (d : Design) (new : ChipView) (events : List Actor) (a : Actor) (entry : Entry) (puts : List ℕ)
+    → Turns d (world d events) a new entry puts → (world d (events ++ a ∷ [])).flat.output ≡ (world d events).flat.output ++ puts
+output-more d new events a entry puts t = ap (λ (w : World). w.flat.output) (grows d events a).world_after ∙ t.output

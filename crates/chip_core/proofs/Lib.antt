@@ -1,7 +1,23 @@
 mod ListFacts
-pub mod EventFacts
-pub mod JournalFacts
-pub mod RunFacts
-pub mod StandFacts
-mod LineFacts
-pub mod ReportFacts
+mod MemoryFacts
+mod CoreFacts
+mod HartFacts
+mod EntryFacts
+mod EventFacts
+mod ReachedFacts
+mod SeatFacts
+mod ChangeFacts
+mod FlushingFacts
+mod RangeFacts
+mod TurnFacts
+mod ActFacts
+mod JoinFacts
+mod CommitFacts
+mod FitFacts
+mod CallFacts
+mod ArmFacts
+mod TryFacts
+mod PartFacts
+mod StartFacts
+mod NotedFacts
+mod ReportFacts

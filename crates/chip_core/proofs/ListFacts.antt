@@ -1,9 +1,27 @@
--- Lists and the functions that they show.
-use Rattle.std.proofs.Common.{◌≡◌, ◌≢◌, ℕ, zero, suc, ◌<◌, Bool, true, false, List, [], ◌∷◌, length, set, refl, ap, ◌∙◌, cond, eqb, ltb, Some, None, arith, replicate}
+-- Lists with one member changed.
+use Rattle.std.proofs.Common.{◌≡◌, ◌≢◌, cond, ltb, true, false, ℕ, zero, suc, ◌+◌, List, [], ◌∷◌, ◌++◌, take, drop, length, map, set, refl, ap, arith, Some, None}
 use Rattle.std.specs.Prelude.{slice_get}
-use Rattle.std.proofs.lemmas.Bool.{eqb-true, eqb-false, lt-ltb}
 use Rattle.std.proofs.lemmas.Bool.Decides.{nat_tests}
-use Rattle.offload_calls.specs.State.{updated}
+
+some-eq : {A : Type 0} (x y : A) → Some x ≡ Some y → x ≡ y
+some-eq x y e = cc
+
+map-suc : {A : Type 0} (f : A → A) (xs : List A) (i : ℕ) (x y : A)
+    → slice_get (map f (take i xs) ++ drop i xs) i ≡ Some x → y ≡ f x
+    → set (map f (take i xs) ++ drop i xs) i y ≡ map f (take (suc i) xs) ++ drop (suc i) xs
+map-suc f [] zero x y at is = cc
+map-suc f [] (suc i) x y at is = cc
+map-suc f (z ∷ zs) zero x y at is = ap (λ v. v ∷ zs) (rw (some-eq z x at) is)
+map-suc f (z ∷ zs) (suc i) x y at is = ap (λ rest. f z ∷ rest) (map-suc f zs i x y at is)
+
+plus_one : (i : ℕ) → i + 1 ≡ suc i
+plus_one i = omega arith
+
+-- a map over a list, one member further
+pub map-next : {A : Type 0} (f : A → A) (xs : List A) (i : ℕ) (x y : A)
+    → slice_get (map f (take i xs) ++ drop i xs) i ≡ Some x → y ≡ f x
+    → set (map f (take i xs) ++ drop i xs) i y ≡ map f (take (i + 1) xs) ++ drop (i + 1) xs
+map-next f xs i x y at is = rw plus_one (map-suc f xs i x y at is)
 
 ltb-zero : (i : ℕ) → ltb i 0 ≡ false
 ltb-zero i = grind (arith, nat_tests)
@@ -26,20 +44,9 @@ slice_get-set_other (y ∷ ys) zero (suc k) x other = refl
 slice_get-set_other (y ∷ ys) (suc i) zero x other = refl
 slice_get-set_other (y ∷ ys) (suc i) (suc k) x other = slice_get-set_other ys i k x (λ e. other (ap suc e))
 
--- a list shows a function up to a number, and so do both with one member changed
-pub set-shows : {A : Type 0} (xs : List A) (f : ℕ → A) (n i : ℕ) (x : A) → length xs ≡ n → ((k : ℕ) → k < n → slice_get xs k ≡ Some (f k))
-    → (k : ℕ) → k < n → slice_get (set xs i x) k ≡ Some (updated f i x k)
-set-shows {A} xs f n i x long shows k within =
-    go (eqb k i) refl
-  where
-    go : (b : Bool) → eqb k i ≡ b → slice_get (set xs i x) k ≡ Some (cond b x (f k))
-    go true e =
-        let same : k ≡ i = eqb-true k i e in
-        let inside : ltb i (length xs) ≡ true = lt-ltb i (length xs) (omega arith) in
-        rw same (rw inside at (slice_get-set_same xs i x))
-    go false e = slice_get-set_other xs i k x (eqb-false k i e) ∙ shows k within
-
-pub slice_get-replicate : {A : Type 0} (n k : ℕ) (x : A) → slice_get (replicate n x) k ≡ cond (ltb k n) (Some x) None
-slice_get-replicate zero k x = rw ltb-zero refl
-slice_get-replicate (suc n) zero x = rw zero-ltb refl
-slice_get-replicate (suc n) (suc k) x = rw ltb-suc (slice_get-replicate n k x)
+-- the member that comes next is still the one of the list
+pub map-here : {A : Type 0} (f : A → A) (xs : List A) (i : ℕ) → slice_get (map f (take i xs) ++ drop i xs) i ≡ slice_get xs i
+map-here f [] zero = refl
+map-here f [] (suc i) = refl
+map-here f (x ∷ xs) zero = refl
+map-here f (x ∷ xs) (suc i) = map-here f xs i

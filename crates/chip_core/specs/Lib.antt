@@ -1,5 +1,11 @@
-pub mod Acts
-pub mod ChipView
+pub mod Entries
+pub mod Fits
+pub mod Views
+pub mod Shows
+pub mod Steps
+pub mod Rulings
+pub mod Seats
+pub mod Turns
+pub mod Calls
 pub mod Reports
-pub mod Runs
-pub mod Stands
+pub mod MachineLaws

@@ -1,47 +1,66 @@
 // The near-data cores of a chip.
-ghost use Rattle.std.specs.Prelude.{◌≡◌, ◌<◌, ◌≤◌, length, slice_set, replicate, IfOk};
-ghost use Rattle.rv32_hart.specs.Regs.{start_regs};
-ghost use Rattle.offload_calls.specs.State.{launched_core};
+ghost use Rattle.chip_config.specs.Settings.{settings};
+ghost use Rattle.std.specs.Prelude.{IfOk, replicate, ◌≡◌, ◌∷◌, []};
+ghost use Rattle.fallback_lock.specs.Locks.{fresh_counts};
+ghost use Rattle.chip_core.specs.Fits.{AreAtRest};
+ghost use Rattle.chip_core.specs.Steps.{all_told, told_portion};
 
+use crate::stage::Stage;
 use arrayvec::ArrayVec;
+use chip_config::Config;
+use conda_base::Line;
+use fallback_lock::Lock;
 use offload_calls::CoreStatus;
-use rv32_hart::Regs;
+use portion_ctl::Ready;
 use std::alloc::{AllocError, Global};
+use std::mem;
 
-/// How each core stands, and its registers.
-#[derive(Debug, Drop)]
+/// How each core stands, what it holds, and the rollbacks with the locked core.
+#[derive(Drop)]
 pub struct Cores {
     pub statuses: ArrayVec<CoreStatus, 4>,
-    pub registers: Vec<Regs>,
+    pub portions: Vec<Stage>,
+    pub lock: Lock,
 }
 
 impl Cores {
-    /// So many idle cores, with all registers and pc 0.
-    pub fn new(alloc: Global, many: u32) -> Result<Cores, AllocError>
-        requires { many ≤ 4 }
-        ensures statuses { IfOk result (λ cores. cores.statuses.items ≡ replicate many CoreStatus.Idle) }
-        ensures registers { IfOk result (λ cores. cores.registers.items ≡ replicate many (start_regs 0)) }
+    /// Idle cores, each with no try, no rollback, and none locked.
+    pub fn new(alloc: Global, config: &Config) -> Result<Cores, AllocError>
+        ensures statuses { IfOk result (λ cores.
+            cores.statuses.items ≡ replicate config.now.cores CoreStatus.Idle) }
+        ensures portions { IfOk result (λ cores. AreAtRest (settings config.now)
+            cores.portions.items) }
+        ensures lock { IfOk result (λ cores.
+            cores.lock ≡ fresh_counts config.now.cores config.now.retries) }
     {
         let mut statuses = ArrayVec::new();
-        let mut registers = Vec::with_capacity(alloc, many as usize)?;
-        for _ in 0..many {
+        let mut portions = Vec::with_capacity(alloc, config.cores as usize)?;
+        for j in 0..config.cores {
             statuses.push(CoreStatus::Idle);
-            registers.push(Regs::new(0))?;
+            portions.push(Stage::Ready(Ready::new(alloc, j as u8, config)?))?;
         }
         Ok(Cores {
             statuses,
-            registers,
+            portions,
+            lock: Lock::new(config.cores as u8, config.retries),
         })
     }
+}
 
-    /// Starts a core's registers at an entry, with an argument in x10.
-    pub fn start(&mut self, core: u8, entry: u32, arg: u32)
-        requires { core < length self.old.registers.items }
-        ensures registers { self.new.registers.items ≡ slice_set self.old.registers.items core (launched_core entry arg).regs }
-        ensures statuses { self.new.statuses ≡ self.old.statuses }
-    {
-        let mut regs = Regs::new(entry);
-        regs.x[10] = arg;
-        self.registers[core as usize] = regs;
+// Every open try takes note of a line that a hart stores to.
+pub fn tell(portions: &mut [Stage], l: Line)
+    ensures { portions.new ≡ all_told (l ∷ []) portions.old }
+{
+    for portion in portions {
+        tell_one(portion, l);
+    }
+}
+
+fn tell_one(portion: &mut Stage, l: Line)
+    ensures { portion.new ≡ told_portion (l ∷ []) portion.old }
+{
+    match portion {
+        Stage::Open(open) => open.foreign(l),
+        Stage::Ready(_) | Stage::Flushing(_) | Stage::Moved => {}
     }
 }

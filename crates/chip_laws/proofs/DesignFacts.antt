@@ -8,30 +8,32 @@ pub setup-fits : (d : Design) → IsDesign d → IsSetup (setup_of d)
 setup-fits d is =
     record {
       code = is.code;
-      size = d.config.line_size;
-      base = ap (λ b. b % d.config.line_bytes) is.base ∙ d.config.whole_base;
-      bytes = ap (λ b. b % d.config.line_bytes) is.bytes ∙ d.config.whole_bytes;
+      size = is.accepted.ranged.line_bytes;
+      base = ap (λ b. b % d.config.line_bytes) is.base ∙ is.accepted.whole_base;
+      bytes = ap (λ b. b % d.config.line_bytes) is.bytes ∙ is.accepted.whole_bytes;
     }
 
-pub limits-fit : (d : Design) → IsLimits (limits_of d.config)
-limits-fit d = record {
-  line_size = d.config.line_size;
-  sets = (d.config.some_core_sets.1, d.config.some_core_sets.2);
-  ways = d.config.some_core_ways;
-  bits = d.config.some_sig_bits;
-  reads = d.config.some_reads;
-  writes = d.config.some_writes;
-  acts = d.config.some_acts;
-  output = d.config.some_output;
-}
+pub limits-fit : (d : Design) → IsDesign d → IsLimits (limits_of d.config)
+limits-fit d is =
+    let ranged = is.accepted.ranged in
+    record {
+      line_size = ranged.line_bytes;
+      sets = (ranged.core_sets.1, ranged.core_sets.2);
+      ways = ranged.core_ways;
+      bits = ranged.sig_bits;
+      reads = ranged.read_limit;
+      writes = ranged.write_limit;
+      acts = ranged.portion_max;
+      output = ranged.out_max;
+    }
 
 -- the harts' caches have sets and ways
 pub record HasCaches (d : Design) : Type 0 where
   pub ways : 0 < d.config.hart_ways
   pub sets : 0 < d.config.hart_sets
 
-pub caches-fit : (d : Design) → HasCaches d
-caches-fit d = record { ways = above d.config.some_hart_ways.0; sets = above d.config.some_hart_sets.1 }
+pub caches-fit : (d : Design) → IsDesign d → HasCaches d
+caches-fit d is = record { ways = above is.accepted.ranged.hart_ways.0; sets = above is.accepted.ranged.hart_sets.1 }
   where
     above : {n : ℕ} → 1 ≤ n → 0 < n
     above h = omega arith

@@ -1,11 +1,12 @@
 pub mod ActFacts
 pub mod BalanceFacts
-pub mod BelowFacts
 pub mod BoundedFacts
 pub mod DesignFacts
 pub mod EntryLaws
 pub mod FlushFacts
 pub mod FreshFacts
+pub mod GrowthFacts
+pub mod LawfulFacts
 pub mod LineBalance
 pub mod LockFacts
 pub mod NoteCounts

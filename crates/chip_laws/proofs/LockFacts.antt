@@ -20,18 +20,18 @@ use Rattle.bloom_sig.specs.Images.{is_meeting}
 use Rattle.bloom_sig.proofs.HitLemmas.{meeting-none}
 use Rattle.chip_laws.proofs.FreshFacts.{took-good, start-good}
 use Rattle.chip_laws.specs.Sound.{FitsAt, OthersFree, SoundAt, KeepsBounds}
-use Rattle.chip_laws.proofs.BelowFacts.{none_at, none_if}
+use Rattle.line_memory.proofs.BelowLemmas.{none_at, none_found}
 use Rattle.chip_laws.proofs.WorldFacts.{Allowed, CommitsAt, waits_in, core_kept}
 
 -- nobody but those that skip holds of is locked
 pub not_locked : (w : World) (skip : ℕ → Bool) (n k : ℕ) → is_locked_below w skip n ≡ false → k < n → skip k ≡ false → is_locked (w.seats k).opening ≡ false
 not_locked w skip n k none below apart =
     subst (λ b. (not b && is_locked (w.seats k).opening) ≡ false) apart
-    (none_at n (λ i. not (skip i) && is_locked (w.seats i).opening) k none below)
+    (none_at n k (λ i. not (skip i) && is_locked (w.seats i).opening) none below)
 
 -- and the other way round
 pub none_locked : (w : World) (skip : ℕ → Bool) (n : ℕ) → ((k : ℕ) → k < n → skip k ≡ false → is_locked (w.seats k).opening ≡ false) → is_locked_below w skip n ≡ false
-none_locked w skip n free = none_if n (λ i. not (skip i) && is_locked (w.seats i).opening) (λ k below. go k below (skip k) refl)
+none_locked w skip n free = none_found n (λ i. not (skip i) && is_locked (w.seats i).opening) (λ k below. go k below (skip k) refl)
   where
     go : (k : ℕ) → k < n → (b : Bool) → skip k ≡ b → (not b && is_locked (w.seats k).opening) ≡ false
     go k below true e = refl

@@ -18,7 +18,7 @@ use Rattle.chip_laws.specs.Notes.{hart_use}
 use Rattle.line_memory.specs.Access.{is_held_elsewhere, put_front, shared_at, shared_line, loaded_state, list_beside_load, changed_set, after_load, after_store, cleaned_tag, after_lock}
 use Rattle.chip_laws.specs.Uses.{after_use, flush_after}
 use Rattle.line_memory.specs.Owners.{is_owner}
-use Rattle.chip_laws.proofs.BelowFacts.{none_at}
+use Rattle.line_memory.proofs.BelowLemmas.{none_at}
 
 -- a list has the line, and has it in M or E
 abbrev pub is_held : Line → List Tag → Bool
@@ -201,7 +201,7 @@ none_elsewhere : (c : Shape) (tags : Tags) (h : ℕ) (l : Line) (k : ℕ) → is
     → is_held l (tags k (set_of c l)) ≡ false
 none_elsewhere c tags h l k e below other =
     subst (λ b. (not b && is_held l (tags k (set_of c l))) ≡ false) (ne_eqb k h other)
-    (none_at c.holders (λ i. not (eqb i h) && is_held l (tags i (set_of c l))) k e below)
+    (none_at c.holders k (λ i. not (eqb i h) && is_held l (tags i (set_of c l))) e below)
 
 -- an edit of one set's lists: each list once, and alone in that set
 one_set : (c : Shape) (tags : Tags) (h set : ℕ) (own other : List Tag → List Tag) → HaveOwners c tags

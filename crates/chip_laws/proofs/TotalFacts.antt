@@ -619,14 +619,14 @@ pub totals : (p : Design) (s : List Actor) → IsDesign p → AllByRecursion (Is
     → count Kind_is.Fill (world p s).notes ≡ count Kind_is.Evict (world p s).notes + count Kind_is.Drop (world p s).notes + tag_count (hart_shape p) (world p s).tags
 totals p s is u =
     let none = no_tags p.config.harts p.config.hart_sets in
-    let t = (world-total p (start_world p) s (caches-fit p) (start-fits p) u (total-same [] 0 _ (sym none) refl refl refl)).even in
+    let t = (world-total p (start_world p) s (caches-fit p is) (start-fits p) u (total-same [] 0 _ (sym none) refl refl refl)).even in
     omega arith
 
 pub balanced : AlwaysBalanced
 balanced p s is u =
     record {
       lines = λ h l below.
-          let b = (world-bal p (start_world p) s h l (caches-fit p) (start-fits p) below (bal-empty h l false false refl)).even in omega arith;
+          let b = (world-bal p (start_world p) s h l (caches-fit p is) (start-fits p) below (bal-empty h l false false refl)).even in omega arith;
       corefills =
           let all = world-corefills p (start_world p) s (start-sound p is) u in
           let none = none_open p p.config.cores in

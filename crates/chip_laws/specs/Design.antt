@@ -4,20 +4,25 @@ use Rattle.conda_base.specs.declared.actor.Actor.{Actor}
 use Rattle.conda_base.specs.declared.actor.Actor.TheVariants as Actor_is
 use Rattle.rv32_hart.specs.Code.{IsCode}
 use Rattle.chip_config.specs.declared.config.Config.{Config}
+use Rattle.chip_config.specs.Settings.{Settings, settings, IsAccepted}
 use Rattle.elf_loader.specs.Image.{ImageView}
 use Rattle.offload_calls.specs.State.{Setup}
 use Rattle.line_memory.specs.Tags.{Shape}
 
 pub record Design : Type 0 where
-  pub config : Config
+  pub config : Settings
   pub image : ImageView
 
--- The image is loaded into the configuration's memory. The configuration's own ranges come with
--- every Config.
+-- the configuration is accepted, and the image is loaded into its memory
 pub record IsDesign (d : Design) : Type 0 where
+  pub accepted : IsAccepted d.config
   pub code : IsCode d.image.code
   pub base : d.image.code.base ≡ d.config.mem_base
   pub bytes : length d.image.code.bytes ≡ d.config.mem_bytes
+
+-- this configuration with this image
+abbrev pub design_for : Config → ImageView → Design
+design_for config image = record { config = settings config; image = image }
 
 -- what the flat state's acts need of it
 abbrev pub setup_of : Design → Setup

@@ -5,6 +5,7 @@ pub mod Entries
 pub mod Facts
 pub mod Flushes
 pub mod Fresh
+pub mod Lawful
 pub mod Notes
 pub mod Owners
 pub mod Places

@@ -159,3 +159,7 @@ journal_from d w (a ∷ events) = next d w a ∷ journal_from d (happens d w a) 
 
 abbrev pub journal : Design → List Actor → List Entry
 journal d events = journal_from d (start_world d) events
+
+-- the bytes that these events put out
+abbrev pub output_of : Design → List Actor → List ℕ
+output_of d events = (world d events).flat.output

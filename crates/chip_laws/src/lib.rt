@@ -6,6 +6,7 @@ ghost use Rattle.chip_laws.specs.Bounded.{AlwaysBounded};
 ghost use Rattle.chip_laws.specs.Facts.{AlwaysEntryFacts};
 ghost use Rattle.chip_laws.specs.Flushes.{AlwaysWrittenBack};
 ghost use Rattle.chip_laws.specs.Fresh.{Fresh};
+ghost use Rattle.chip_laws.specs.Lawful.{AlwaysLawful};
 ghost use Rattle.chip_laws.specs.Owners.{AlwaysOwners};
 ghost use Rattle.chip_laws.specs.Places.{AlwaysEnds, AlwaysOpenings};
 ghost use Rattle.chip_laws.specs.Rollbacks.{AlwaysRollbacks};
@@ -74,6 +75,11 @@ pub fn worlds_are_sound()
 /// One event more is one entry more.
 pub fn worlds_grow()
     ensures { AlwaysGrows }
+{}
+
+/// All of this at once, for the events of a run.
+pub fn events_are_lawful()
+    ensures { AlwaysLawful }
 {}
 
 /// Flat memory is one memory that executes the written order alone.

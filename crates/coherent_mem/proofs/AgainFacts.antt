@@ -8,12 +8,12 @@ use Rattle.conda_base.specs.declared.Line.{Line}
 use Rattle.conda_base.specs.declared.Mesi.{Mesi}
 use Rattle.conda_base.specs.declared.Mesi.TheVariants.{M}
 use Rattle.line_memory.specs.Tags.{dirty_lines, Tag, Tags, state_in, without_line, Shape, set_of, some_below, held_state, is_in_m}
-use Rattle.line_memory.specs.Backing.{dirty_in, IsBacking, BackingView, IsInRange, shape_of}
+use Rattle.line_memory.specs.Backing.{dirty_in, HasSameNumbers, IsBacking, BackingView, IsInRange, shape_of}
 use Rattle.line_memory.specs.Access.{put_front, after_store}
 use Rattle.line_memory.specs.Notes.{access_notes, store_notes}
 use Rattle.line_memory.specs.Copies.{has_same_owner}
 use Rattle.coherent_mem.specs.Again.{IsAtomic, IsStoredAgain}
-use Rattle.coherent_mem.specs.Steps.{HasSameNumbers, StepsTo}
+use Rattle.coherent_mem.specs.Steps.{StepsTo}
 use Rattle.coherent_mem.proofs.DirtyFacts.{dirty_named}
 use Rattle.coherent_mem.proofs.AloneFacts.{state_in-without}
 use Rattle.coherent_mem.proofs.MissFacts.{state_in-take, without_line-none}

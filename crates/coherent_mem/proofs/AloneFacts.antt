@@ -19,21 +19,21 @@ use Rattle.traffic_trace.specs.declared.note.Kind.TheVariants.{Fill}
 use Rattle.line_memory.specs.Notes.{note_of, all_noted, access_notes, store_notes}
 use Rattle.line_memory.specs.Memory.{Memory, IsIn, line_of}
 use Rattle.line_memory.specs.Tags.{Tag, without_line, held_state, state_in, is_in_m}
-use Rattle.line_memory.specs.Backing.{view_of, shape_of, copy_of}
+use Rattle.line_memory.specs.Backing.{view_of, HasSameNumbers, shape_of, copy_of}
+use Rattle.line_memory.proofs.BelowLemmas.{none_found, some_exists, some_found}
 use Rattle.line_memory.specs.Access.{put_front, after_store}
 use Rattle.line_memory.specs.Copies.{has_same_owner}
 use Rattle.coherent_mem.specs.Moves.{IsMoved, list_at, gone_notes, IsAlone, IsDropped, IsFree, dropped_notes, relisted}
 use Rattle.coherent_mem.specs.Parts.{Parts, AreParts, cache_at, held, shown}
-use Rattle.coherent_mem.specs.Steps.{HasSameNumbers, StepsTo}
+use Rattle.coherent_mem.specs.Steps.{StepsTo}
 use Rattle.coherent_mem.proofs.CacheFacts.{test_off}
 use Rattle.coherent_mem.proofs.LineFacts.{beside_owner, none_not_some}
 use Rattle.coherent_mem.proofs.PartFacts.{held_here, held_beside, held_other, count_same}
 use Rattle.coherent_mem.proofs.RoomFacts.{room_is}
 use Rattle.coherent_mem.proofs.TagFacts.{state_of_content, state_shown}
 use Rattle.coherent_mem.proofs.ViewFacts.{length_view}
-use Rattle.coherent_mem.proofs.DirtyFacts.{copy_next, follows, is_dirty, is_m, some_exists}
+use Rattle.coherent_mem.proofs.DirtyFacts.{copy_next, follows, is_dirty, is_m}
 use Rattle.coherent_mem.proofs.CoherentFacts.{coherent}
-use Rattle.coherent_mem.proofs.ShareFacts.{some_found, none_found}
 use Rattle.coherent_mem.proofs.CopyFacts.{numbers_twice, quiet_twice, quiet_same, noted_twice, clean_copy, not_dirty, range_new, range_of}
 use Rattle.coherent_mem.proofs.MissFacts.{cut, IsRoomy, room_states, no_content, state_in-take, without_line-none}
 use Rattle.coherent_mem.proofs.HitFacts.{front_whole}

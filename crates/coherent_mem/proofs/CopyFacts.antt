@@ -11,16 +11,15 @@ use Rattle.traffic_trace.specs.declared.note.Note.{Note}
 use Rattle.line_memory.specs.Notes.{all_noted}
 use Rattle.line_memory.specs.Memory.{IsIn, line_of}
 use Rattle.line_memory.specs.Tags.{held_state, state_in, is_in_m}
-use Rattle.line_memory.specs.Backing.{BackingView, view_of, shape_of, IsInRange, copy_of}
+use Rattle.line_memory.specs.Backing.{BackingView, HasSameNumbers, view_of, shape_of, IsInRange, copy_of}
+use Rattle.line_memory.proofs.BelowLemmas.{none_at, some_exists, some_found}
 use Rattle.line_memory.specs.Copies.{has_same_owner}
-use Rattle.coherent_mem.specs.Moves.{IsQuiet}
+use Rattle.coherent_mem.specs.Moves.{HasNoNewDirty}
 use Rattle.coherent_mem.specs.Parts.{Parts, AreParts, held, shown}
-use Rattle.coherent_mem.specs.Steps.{HasSameNumbers}
 use Rattle.coherent_mem.proofs.LineFacts.{seen_all}
 use Rattle.coherent_mem.proofs.ViewFacts.{view_of_shown, length_view}
 use Rattle.coherent_mem.proofs.MoveFacts.{state_held, holder_of}
-use Rattle.coherent_mem.proofs.DirtyFacts.{copy_next, is_dirty, is_m, some_exists}
-use Rattle.coherent_mem.proofs.ShareFacts.{none_at, some_found}
+use Rattle.coherent_mem.proofs.DirtyFacts.{copy_next, is_dirty, is_m}
 
 -- memory's numbers stay along two changes, and no line becomes M in two quiet ones
 pub numbers_twice : (a b c : BackingView) → HasSameNumbers a b → HasSameNumbers b c → HasSameNumbers a c
@@ -33,13 +32,13 @@ numbers_twice a b c first second = record {
   size = second.size ∙ first.size;
 }
 
-pub quiet_twice : (a b c : BackingView) → IsQuiet a b → IsQuiet b c → IsQuiet a c
+pub quiet_twice : (a b c : BackingView) → HasNoNewDirty a b → HasNoNewDirty b c → HasNoNewDirty a c
 quiet_twice a b c first second = record {
   dirty = λ l k m. first.dirty l k (second.dirty l k m);
   copies = λ l k m. second.copies l k m ∙ first.copies l k (second.dirty l k m);
 }
 
-pub quiet_same : (a : BackingView) → IsQuiet a a
+pub quiet_same : (a : BackingView) → HasNoNewDirty a a
 quiet_same a = record { dirty = λ l k m. m; copies = λ l k m. refl }
 
 pub not_m : (o : Option Mesi) → is_in_m o ≡ false → o ≢ Some M
@@ -61,7 +60,7 @@ not_dirty p are l none k m =
     not_m _ (none_at (length p.caches) k (λ h. is_in_m (held_state (shape_of (shown p)) (shown p).tags h l)) none (state_inside p are l k M m)) m
 
 -- after a quiet change with the same view the copies are those that follow
-pub copies_follow : (p q : Parts) → AreParts p → AreParts q → HasSameNumbers (shown p) (shown q) → IsQuiet (shown p) (shown q) → (l : Line) → IsIn q.memory l → copy_of (shown q) l ≡ copy_next (shown p) (shown q) l
+pub copies_follow : (p q : Parts) → AreParts p → AreParts q → HasSameNumbers (shown p) (shown q) → HasNoNewDirty (shown p) (shown q) → (l : Line) → IsIn q.memory l → copy_of (shown q) l ≡ copy_next (shown p) (shown q) l
 copies_follow p q are new same quiet l there =
     ⊎_elim
     (λ (dirty : is_dirty (shape_of (shown q)) (shown q).tags l ≡ true).

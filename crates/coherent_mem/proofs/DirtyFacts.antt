@@ -1,5 +1,5 @@
 -- Which lines are dirty: by the list of the dirty lines, and by the states in which the holders have a line.
-use Rattle.std.proofs.Common.{◌≡◌, ℕ, zero, suc, ◌<◌, ⊎_elim, Bool, true, false, ◌||◌, cond, eqb, List, [], ◌∷◌, Option, Some, None, sym, ap, subst, ◌∙◌, refl, arith}
+use Rattle.std.proofs.Common.{◌≡◌, ℕ, ⊎_elim, Bool, true, false, ◌||◌, cond, eqb, List, [], ◌∷◌, Option, Some, None, sym, ap, subst, ◌∙◌, refl}
 use Rattle.std.specs.List.{Contains}
 use Rattle.std.proofs.lemmas.Bool.{cases_Bool, eqb-true, eq-eqb, or_cases}
 use Rattle.conda_base.specs.LineLists.{names}
@@ -10,8 +10,8 @@ use Rattle.cpu_cache.proofs.EntryFacts.{same_line}
 use Rattle.line_memory.specs.Tags.{Tags, Shape, held_state, is_in_m, some_below}
 use Rattle.line_memory.specs.Copies.{copy_after, has_same_owner}
 use Rattle.line_memory.specs.Backing.{BackingView, IsBacking, shape_of, copy_of, view_of, dirty_in}
+use Rattle.line_memory.proofs.BelowLemmas.{some_exists, some_found}
 use Rattle.line_memory.proofs.MemberLemmas.{cons_cases, cons_here, cons_later, none_in_nil, state_of_dirty, dirty_of_state}
-use Rattle.coherent_mem.proofs.ShareFacts.{some_found}
 
 -- some holder has the line in M
 abbrev pub is_dirty : Shape → Tags → Line → Bool
@@ -23,14 +23,6 @@ copy_next old new l =
     cond (is_dirty (shape_of new) new.tags l)
     (cond (has_same_owner (shape_of new) old.tags new.tags l) (copy_of old l) (view_of old l))
     (view_of new l)
-
-pub some_exists : (n : ℕ) (test : ℕ → Bool) → some_below n test ≡ true → (k : ℕ) × (k < n) × (test k ≡ true)
-some_exists zero test is = absurd cc
-some_exists (suc n) test is =
-    ⊎_elim
-    (λ (earlier : some_below n test ≡ true). let found = some_exists n test earlier in (found.0, omega arith, found.2))
-    (λ (last : test n ≡ true). (n, omega arith, last))
-    (or_cases (some_below n test) (test n) is)
 
 pub is_m : (o : Option Mesi) → is_in_m o ≡ true → o ≡ Some M
 is_m None is = absurd cc

@@ -14,10 +14,9 @@ use Rattle.traffic_trace.specs.declared.note.Kind.TheVariants.{Drop}
 use Rattle.line_memory.specs.Notes.{note_of, back_notes, leave_notes, all_noted}
 use Rattle.line_memory.specs.Memory.{IsIn, with_line}
 use Rattle.line_memory.specs.Tags.{Tag, without_line, held_state, state_in}
-use Rattle.line_memory.specs.Backing.{view_of, shape_of}
+use Rattle.line_memory.specs.Backing.{view_of, HasSameNumbers, shape_of}
 use Rattle.coherent_mem.specs.Moves.{IsMoved, list_at, written_back, IsDropped, dropped_notes, own_with, relisted}
 use Rattle.coherent_mem.specs.Parts.{Parts, AreParts, shown}
-use Rattle.coherent_mem.specs.Steps.{HasSameNumbers}
 use Rattle.coherent_mem.proofs.CacheFacts.{test_off}
 use Rattle.coherent_mem.proofs.ViewFacts.{view_of_shown, length_seen}
 use Rattle.coherent_mem.proofs.CopyFacts.{numbers_twice, quiet_twice, noted_twice}

@@ -8,7 +8,7 @@ use Rattle.conda_base.specs.declared.Line.{Line}
 use Rattle.conda_base.specs.declared.Mesi.TheVariants.{M, E, S}
 use Rattle.conda_base.specs.Bytes.{handed_out}
 use Rattle.set_assoc.specs.Entries.{replaced, lookup, AreEntries}
-use Rattle.cpu_cache.specs.Contents.{Content, Contents, set_list, tag_of, with_set, restated, bytes_of, content_bytes, state_of}
+use Rattle.cpu_cache.specs.Contents.{Content, Contents, set_list, tag_of, with_set, restated, state_of, content_of, bytes_in, written_back as handed_back}
 use Rattle.cpu_cache.proofs.EntryFacts.{same_line}
 use Rattle.cpu_cache.proofs.FindFacts.{list_entries}
 use Rattle.mesi_directory.specs.declared.row.Row.{Row}
@@ -20,7 +20,7 @@ use Rattle.line_memory.specs.Notes.{note_of, flush_notes, back_notes}
 use Rattle.line_memory.specs.Memory.{Memory, IsIn, line_of, with_line, written}
 use Rattle.line_memory.specs.Tags.{Tag, Tags, held_state, state_in, cleaned_line, cleaned_state}
 use Rattle.line_memory.proofs.MemberLemmas.{cons_here, cons_later}
-use Rattle.coherent_mem.specs.Moves.{Edits, list_at, written_back}
+use Rattle.coherent_mem.specs.Moves.{Edits, backed, list_at, written_back}
 use Rattle.coherent_mem.specs.Parts.{Parts, AreParts, IsKept, cache_at, held, seen, shown}
 use Rattle.coherent_mem.proofs.CacheFacts.{edit_restated, test_off}
 use Rattle.coherent_mem.proofs.LineFacts.{m_not_s, kept_owned, beside_owner}
@@ -174,10 +174,15 @@ can_clean p o l was are is read =
     let cache : was ≡ cache_at p o = read_cache p o was (held_inside p l o is.content is.held) read in
     ap (λ (c : Contents). state_of c l) cache ∙ ap (λ (x : Option Content). option_map (λ content. content.state) x) is.held ∙ ap (λ s. Some s) is.state
 
-pub flushing : (p : Parts) (o : ℕ) (l : Line) (was cache : Contents) (bytes : List ℕ) (memory : Memory) → AreParts p → IsDirtyAt p l o → was ≡ get_or p.caches o was → bytes ≡ handed_out (bytes_of was l) → cache ≡ with_set was l (restated was l E) → memory ≡ written p.memory l (take p.memory.line_bytes bytes) → IsFlush p (moved p o cache memory p.rows) o l
-flushing p o l was cache bytes memory are is read handed cached back_is =
+-- what is written back of a dirty line
+pub back_of : (p : Parts) (o : ℕ) (l : Line) (was : Contents) (back : Option (List ℕ)) → AreParts p → (is : IsDirtyAt p l o) → was ≡ get_or p.caches o was → back ≡ handed_back (content_of was l) → back ≡ Some (handed_out is.content.bytes)
+back_of p o l was back are is read handed =
     let same : was ≡ cache_at p o = read_cache p o was (held_inside p l o is.content is.held) read in
-    let own : bytes_of was l ≡ is.content.bytes = ap (λ (c : Contents). bytes_of c l) same ∙ ap content_bytes is.held in
+    handed ∙ ap (λ (c : Contents). handed_back (content_of c l)) same ∙ ap handed_back is.held ∙ ap (λ s. bytes_in s (handed_out is.content.bytes)) is.state
+
+pub flushing : (p : Parts) (o : ℕ) (l : Line) (was cache : Contents) (back : Option (List ℕ)) (memory : Memory) → AreParts p → (is : IsDirtyAt p l o) → was ≡ get_or p.caches o was → back ≡ Some (handed_out is.content.bytes) → cache ≡ with_set was l (restated was l E) → memory ≡ backed p.memory l back → IsFlush p (moved p o cache memory p.rows) o l
+flushing p o l was cache back memory are is read handed cached back_is =
+    let same : was ≡ cache_at p o = read_cache p o was (held_inside p l o is.content is.held) read in
     flush_line p o l is.content cache memory are is.held is.state
     (cached ∙ ap (λ (c : Contents). with_set c l (restated c l E)) same)
-    (back_is ∙ ap (λ b. written p.memory l (take p.memory.line_bytes b)) (handed ∙ ap handed_out own))
+    (back_is ∙ ap (λ b. backed p.memory l b) handed)

@@ -22,7 +22,7 @@ use Rattle.line_memory.specs.Tags.{without_line, held_state}
 use Rattle.line_memory.specs.Backing.{view_of, shape_of}
 use Rattle.line_memory.proofs.MemoryLemmas.{bytes_of_line-in}
 use Rattle.line_memory.specs.Access.{put_front, after_load}
-use Rattle.coherent_mem.specs.Moves.{IsMoved, IsQuiet, list_at}
+use Rattle.coherent_mem.specs.Moves.{IsMoved, HasNoNewDirty, list_at}
 use Rattle.coherent_mem.specs.Parts.{Parts, AreParts, cache_at, held, seen, seen_below, shown}
 use Rattle.coherent_mem.specs.Steps.{StepsTo, IsAccess, value_seen}
 use Rattle.coherent_mem.proofs.CacheFacts.{test_off, edit_front}
@@ -80,7 +80,7 @@ value_of_buffer p are addr size buffer is filled =
     value_of_line p are addr size is
 
 -- a change that leaves what is held, and memory, is quiet
-quiet_held : (p q : Parts) → AreParts p → AreParts q → ((a : Line) (k : ℕ) → held q a k ≡ held p a k) → q.memory ≡ p.memory → IsQuiet (shown p) (shown q)
+quiet_held : (p q : Parts) → AreParts p → AreParts q → ((a : Line) (k : ℕ) → held q a k ≡ held p a k) → q.memory ≡ p.memory → HasNoNewDirty (shown p) (shown q)
 quiet_held p q are new same memory = record {
   dirty = λ a k m. state_shown p are a k ∙ ap (λ o. option_map state_of_content o) (sym (same a k)) ∙ sym (state_shown q new a k) ∙ m;
   copies = λ a k m. ap (λ (x : Memory). line_of x a) memory;
@@ -188,7 +188,7 @@ pub record IsLoadTry (p : Parts) (h addr size : ℕ) (was : Contents) (found : O
 pub record IsHit (p : Parts) (h addr size v : ℕ) (q : Parts) : Type 0 where
   pub are : AreParts q
   pub line_bytes : q.memory.line_bytes ≡ p.memory.line_bytes
-  pub quiet : IsQuiet (shown p) (shown q)
+  pub quiet : HasNoNewDirty (shown p) (shown q)
   pub value : v ≡ value_seen (shown p) addr size
   pub steps : StepsTo (after_load (shape_of (shown p)) (shown p).tags h (line_at (shown p).line_bytes addr)) (shown p).view (shown p) (shown q)
   pub notes : access_notes (shape_of (shown p)) (shown p).tags h (line_at (shown p).line_bytes addr) false ≡ []

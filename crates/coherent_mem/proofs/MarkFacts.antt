@@ -11,13 +11,13 @@ use Rattle.conda_base.specs.declared.Mesi.TheVariants.{M, E, S}
 use Rattle.conda_base.specs.LineLists.{line_at}
 use Rattle.cpu_cache.proofs.EntryFacts.{same_line}
 use Rattle.line_memory.specs.Tags.{Tag, is_modified, state_in, without_line, cleaned_line, cleaned_state, held_state}
-use Rattle.line_memory.specs.Backing.{BackingView, flushed, shape_of}
+use Rattle.line_memory.specs.Backing.{BackingView, HasSameNumbers, flushed, shape_of}
 use Rattle.line_memory.specs.Access.{put_front, after_store}
 use Rattle.line_memory.specs.Memory.{Memory}
 use Rattle.coherent_mem.specs.Marked.{AreMarked, IsCleanFrom, is_m_at}
 use Rattle.coherent_mem.specs.Moves.{IsAlone}
 use Rattle.coherent_mem.specs.Parts.{Parts, AreParts, shown}
-use Rattle.coherent_mem.specs.Steps.{HasSameNumbers, StepsTo}
+use Rattle.coherent_mem.specs.Steps.{StepsTo}
 use Rattle.coherent_mem.proofs.AloneFacts.{state_in-without}
 use Rattle.coherent_mem.proofs.CacheFacts.{test_off}
 use Rattle.coherent_mem.proofs.CoherentFacts.{coherent}

@@ -1,5 +1,5 @@
 -- A load of a line that the holder hasn't got, from its parts.
-use Rattle.std.proofs.Common.{◌≡◌, ◌≢◌, ℕ, zero, suc, ◌%◌, ◌-◌, ◌<◌, ◌≤◌, ⊎_elim, true, false, List, [], ◌∷◌, ◌++◌, Option, Some, None, length, take, sym, ap, subst, ◌∙◌, refl, arith, Bool, not, ◌&&◌, ◌||◌, cond, eqb}
+use Rattle.std.proofs.Common.{◌≡◌, ◌≢◌, ℕ, zero, suc, ◌%◌, ◌-◌, ◌<◌, ◌≤◌, ⊎_elim, true, false, List, [], ◌∷◌, ◌++◌, Option, Some, None, length, take, sym, ap, subst, ◌∙◌, refl, arith, Bool, not, ◌&&◌, cond, eqb}
 use Rattle.std.specs.Option.{option_map, is_some}
 use Rattle.std.proofs.lemmas.List.{take_all, length-take}
 use Rattle.std.proofs.lemmas.Bool.{cases_eq, cases_Bool, eq-eqb}
@@ -19,12 +19,13 @@ use Rattle.traffic_trace.specs.declared.note.Kind.TheVariants.{Fill}
 use Rattle.line_memory.specs.Notes.{all_notes, note_of, all_noted, others_notes, down_notes, access_notes, load_notes}
 use Rattle.line_memory.specs.Memory.{IsIn}
 use Rattle.line_memory.specs.Tags.{Tag, Tags, without_line, held_state, state_in, some_below}
-use Rattle.line_memory.specs.Backing.{view_of, shape_of}
+use Rattle.line_memory.specs.Backing.{view_of, HasSameNumbers, shape_of}
+use Rattle.line_memory.proofs.BelowLemmas.{some_same}
 use Rattle.line_memory.specs.Access.{loaded_state, shared_line, is_held_elsewhere, put_front, after_load}
 use Rattle.line_memory.proofs.WalkLemmas.{each_same}
-use Rattle.coherent_mem.specs.Moves.{IsMoved, IsQuiet, list_at, gone_notes, IsFree, IsShared, HasRoom, relisted}
+use Rattle.coherent_mem.specs.Moves.{IsMoved, HasNoNewDirty, list_at, gone_notes, IsFree, IsShared, HasRoom, relisted}
 use Rattle.coherent_mem.specs.Parts.{Parts, AreParts, held, shown}
-use Rattle.coherent_mem.specs.Steps.{HasSameNumbers, StepsTo}
+use Rattle.coherent_mem.specs.Steps.{StepsTo}
 use Rattle.coherent_mem.proofs.CacheFacts.{test_off}
 use Rattle.coherent_mem.proofs.RoomFacts.{room_is}
 use Rattle.coherent_mem.proofs.TagFacts.{is_some-mapped, state_of_content, state_shown}
@@ -37,7 +38,7 @@ pub record IsRoomy (h : ℕ) (l : Line) (p q : Parts) : Type 0 where
   pub numbers : HasSameNumbers (shown p) (shown q)
   pub view : (shown q).view ≡ (shown p).view
   pub tags : (k s : ℕ) → (shown q).tags k s ≡ relisted (shown p).tags h (l.0 % p.sets) (take (p.ways - 1) (list_at (shown p) h l)) k s
-  pub quiet : IsQuiet (shown p) (shown q)
+  pub quiet : HasNoNewDirty (shown p) (shown q)
   pub are : AreParts q
 
 get_past : {A : Type 0} (xs : List A) (i : ℕ) → slice_get xs i ≡ None → length xs ≤ i
@@ -157,17 +158,13 @@ room_size p q h l are is =
     let ways = is.numbers.ways in
     omega arith
 
-some_below-same : (n : ℕ) (f g : ℕ → Bool) → ((k : ℕ) → f k ≡ g k) → some_below n f ≡ some_below n g
-some_below-same zero f g same = refl
-some_below-same (suc n) f g same = ap (λ b. b || f n) (some_below-same n f g same) ∙ ap (λ b. some_below n g || b) (same n)
-
 and_true : (b : Bool) → (true && b) ≡ b
 and_true true = refl
 and_true false = refl
 
 elsewhere_is : (p : Parts) → AreParts p → (h : ℕ) (l : Line) → held p l h ≡ None → is_held_elsewhere (shape_of (shown p)) (shown p).tags h l ≡ some_below (length p.caches) (λ k. is_some (held p l k))
 elsewhere_is p are h l none =
-    some_below-same (length p.caches) _ _
+    some_same (length p.caches) _ _
     (λ k. ap (λ o. not (eqb k h) && is_some o) (state_shown p are l k) ∙
     ap (λ b. not (eqb k h) && b) (is_some-mapped (held p l k)) ∙
     ⊎_elim

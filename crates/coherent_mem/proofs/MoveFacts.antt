@@ -20,7 +20,7 @@ use Rattle.line_memory.specs.Memory.{Memory, IsIn, line_of, with_line, written}
 use Rattle.line_memory.specs.Tags.{Tag, without_line, held_state}
 use Rattle.line_memory.specs.Backing.{shape_of}
 use Rattle.line_memory.proofs.MemoryLemmas.{with_line-same, bytes_of_line-with_line}
-use Rattle.coherent_mem.specs.Moves.{IsMoved, Edits, IsQuiet, list_at, written_back, backed, backed_notes}
+use Rattle.coherent_mem.specs.Moves.{IsMoved, Edits, HasNoNewDirty, list_at, written_back, backed, backed_notes}
 use Rattle.coherent_mem.specs.Parts.{Parts, AreParts, IsKept, cache_at, held, seen, shown}
 use Rattle.coherent_mem.proofs.CacheFacts.{edit_dropped}
 use Rattle.coherent_mem.proofs.LineFacts.{m_not_s, kept_left, sole, agree, seen_held, seen_all, some_test}
@@ -105,7 +105,7 @@ some_of_state None is = absurd cc
 some_of_state (Some a) is = (a, refl)
 
 -- an edit that makes no line M is quiet
-pub quiet_edit : (p q : Parts) (h : ℕ) (l : Line) (x : Option Content) → AreParts p → AreParts q → h < length p.caches → IsPartEdit p h l x q → option_map state_of_content x ≢ Some M → ((k : ℕ) → k ≢ h → option_map state_of_content (held p l k) ≡ Some M → line_of q.memory l ≡ line_of p.memory l) → IsQuiet (shown p) (shown q)
+pub quiet_edit : (p q : Parts) (h : ℕ) (l : Line) (x : Option Content) → AreParts p → AreParts q → h < length p.caches → IsPartEdit p h l x q → option_map state_of_content x ≢ Some M → ((k : ℕ) → k ≢ h → option_map state_of_content (held p l k) ≡ Some M → line_of q.memory l ≡ line_of p.memory l) → HasNoNewDirty (shown p) (shown q)
 quiet_edit p q h l x are new inside e clean own =
     let was : (a : Line) (k : ℕ) → held_state (shape_of (shown q)) (shown q).tags k a ≡ Some M → (held q a k ≡ held p a k) × ((a.0 ≡ l.0) → k ≢ h) =
     λ a k m.
@@ -208,6 +208,10 @@ back_noted h l a = go a.state a.bytes
     go M bytes = refl
     go E bytes = refl
     go S bytes = refl
+
+-- a holder's cache, read twice
+pub same_read : (p : Parts) (h : ℕ) (one other : Contents) → h < length p.caches → one ≡ get_or p.caches h one → other ≡ get_or p.caches h other → one ≡ other
+same_read p h one other inside first second = read_cache p h one inside first ∙ sym (read_cache p h other inside second)
 
 -- all that leaving a line does, from what the calls in it ensure
 pub record IsLeaving (p : Parts) (h : ℕ) (l : Line) (was : Contents) (back : Option (List ℕ)) (cache : Contents) (memory : Memory) (rows : Rows) : Type 0 where

@@ -1,10 +1,10 @@
 -- Every entry of a line becomes S.
 use Rattle.line_memory.proofs.MemberLemmas.{each_one}
 use Rattle.line_memory.proofs.WalkLemmas.{each_empty}
-use Rattle.std.proofs.Common.{◌≡◌, ◌≢◌, ℕ, zero, suc, ◌%◌, ◌<◌, ◌≤◌, ⊎_elim, true, false, List, [], ◌∷◌, Option, Some, None, length, map, sym, ap, subst, ◌∙◌, refl, arith, eqb, cond, Bool, ◌||◌}
+use Rattle.std.proofs.Common.{◌≡◌, ◌≢◌, ℕ, ◌%◌, ◌<◌, ◌≤◌, ⊎_elim, true, false, List, [], ◌∷◌, Option, Some, None, length, map, sym, ap, subst, ◌∙◌, refl, arith, eqb, cond}
 use Rattle.std.specs.Option.{option_map}
 use Rattle.std.proofs.lemmas.List.{get_or_past}
-use Rattle.std.proofs.lemmas.Bool.{cases_eq, cases_Bool, cases_lt, eqb-true, eq-eqb, or_from, or_parts}
+use Rattle.std.proofs.lemmas.Bool.{cases_eq, cases_Bool, cases_lt, eqb-true, eq-eqb}
 use Rattle.std.specs.Prelude.{is_some}
 use Rattle.std.proofs.lemmas.Nat.Bits.{bit_at-zero, bit_at-lt, same_from_bits}
 use Rattle.std.specs.Int.{bit_at}
@@ -23,6 +23,7 @@ use Rattle.line_memory.specs.Notes.{all_notes, down_notes}
 use Rattle.line_memory.specs.Owners.{is_owner}
 use Rattle.line_memory.specs.Memory.{IsIn, line_of}
 use Rattle.line_memory.specs.Tags.{Tag, held_state, state_in, some_below}
+use Rattle.line_memory.proofs.BelowLemmas.{none_at, none_found, some_found}
 use Rattle.line_memory.specs.Backing.{shape_of}
 use Rattle.line_memory.specs.Access.{shared_line}
 use Rattle.coherent_mem.specs.Moves.{IsMoved, Edits, list_at, written_back, IsShared}
@@ -63,22 +64,6 @@ list_shared p are l k shared =
     let none : cache_at p k ≡ empty 0 0 0 = get_or_past p.caches k (empty 0 0 0) past in
     ap (λ (c : Contents). shared_line l (tags_of c (l.0 % p.sets))) none ∙ sym (ap (λ (c : Contents). tags_of c (l.0 % p.sets)) none))
     (cases_lt k (length p.caches))
-
-pub some_found : (n k : ℕ) (test : ℕ → Bool) → k < n → test k ≡ true → some_below n test ≡ true
-some_found zero k test inside is = absurd (omega arith)
-some_found (suc n) k test inside is =
-    ⊎_elim
-    (λ (same : k ≡ n). rw (ap test (sym same) ∙ is) (or_true (some_below n test)))
-    (λ (apart : k ≢ n). rw (some_found n k test (omega arith) is) refl)
-    (cases_eq k n)
-  where
-    or_true : (b : Bool) → (b || true) ≡ true
-    or_true true = refl
-    or_true false = refl
-
-pub none_found : (n : ℕ) (test : ℕ → Bool) → ((k : ℕ) → k < n → test k ≡ false) → some_below n test ≡ false
-none_found zero test none = refl
-none_found (suc n) test none = or_from _ _ (none_found n test (λ k below. none k (omega arith))) (none n (omega arith))
 
 -- nothing is to do where nobody has the line in M or E
 pub shared_already : (p : Parts) (l : Line) (state : Mesi) → AreParts p → ((k : ℕ) (a : Content) → held p l k ≡ Some a → a.state ≡ S) → (state ≢ S → (k : ℕ) → held p l k ≡ None) → state ≡ cond (some_below (length p.caches) (λ k. is_some (held p l k))) S E → IsShared l state p p
@@ -196,15 +181,6 @@ row_nobody p l are there row k =
   where
     nobody : (k : ℕ) → has Nobody k ≡ false
     nobody k = ap (λ n. eqb n 1) (bit_at-zero k)
-
-pub none_at : (n k : ℕ) (test : ℕ → Bool) → some_below n test ≡ false → k < n → test k ≡ false
-none_at zero k test none below = absurd (omega arith)
-none_at (suc n) k test none below =
-    let parts = or_parts (some_below n test) (test n) none in
-    ⊎_elim
-    (λ (same : k ≡ n). ap test same ∙ parts.1)
-    (λ (apart : k ≢ n). none_at n k test parts.0 (omega arith))
-    (cases_eq k n)
 
 none_below : (p : Parts) (l : Line) → some_below (length p.caches) (λ k. is_some (held p l k)) ≡ false → (k : ℕ) → held p l k ≡ None
 none_below p l none k =

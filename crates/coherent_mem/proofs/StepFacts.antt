@@ -1,7 +1,6 @@
 -- A flush and a merge leave the copies that follow from tags and view, and so do two steps one after another.
 use Rattle.std.proofs.Common.{◌≡◌, ◌≢◌, ℕ, ◌%◌, ◌-◌, ◌*◌, ⊎_elim, Bool, true, false, ◌&&◌, List, [], ◌∷◌, Option, Some, None, length, take, eqb, cond, sym, ap, subst, ◌∙◌, refl, arith, drop}
 use Rattle.std.proofs.lemmas.List.{length-drop, length-take-le}
-use Rattle.std.proofs.Math.Path.{fun_ext}
 use Rattle.std.proofs.lemmas.Bool.{cases_Bool, cases_eq, eqb-true}
 use Rattle.conda_base.specs.Lines.{IsLineOf}
 use Rattle.conda_base.specs.declared.Line.{Line}
@@ -12,20 +11,17 @@ use Rattle.conda_base.proofs.MarkLemmas.{length-mixed}
 use Rattle.cpu_cache.proofs.EntryFacts.{same_line}
 use Rattle.line_memory.specs.Memory.{IsMemory}
 use Rattle.line_memory.specs.Tags.{Tag, Tags, cleaned_state, cleaned_line, state_in, some_below, held_state, is_in_m}
-use Rattle.line_memory.specs.Backing.{BackingView, IsBacking, IsDirty, IsInRange, copy_of, view_of, committed_line, flushed, merged, shape_of}
+use Rattle.line_memory.specs.Backing.{BackingView, HasSameNumbers, IsBacking, IsDirty, IsInRange, copy_of, view_of, committed_line, flushed, merged, shape_of}
+use Rattle.line_memory.proofs.BelowLemmas.{none_found, some_found, some_same}
 use Rattle.line_memory.proofs.MemberLemmas.{state_of_dirty}
 use Rattle.line_memory.proofs.MemoryLemmas.{bytes_of_line-in, bytes_of_line-with_line, bytes_of_line-with_line_other, length-with_line}
 use Rattle.line_memory.specs.Access.{after_flush, after_merge}
 use Rattle.line_memory.specs.Copies.{has_same_owner}
-use Rattle.coherent_mem.specs.Steps.{HasSameNumbers, StepsTo}
+use Rattle.coherent_mem.specs.Steps.{StepsTo}
 use Rattle.coherent_mem.proofs.DirtyFacts.{copy_next, follows, is_dirty}
 use Rattle.coherent_mem.proofs.AloneFacts.{state_in-without}
 use Rattle.coherent_mem.proofs.CacheFacts.{test_off}
 use Rattle.coherent_mem.proofs.MarkFacts.{state_in-without_other}
-use Rattle.coherent_mem.proofs.ShareFacts.{none_found, some_found}
-
-some_same : (n : ℕ) (one other : ℕ → Bool) → ((k : ℕ) → one k ≡ other k) → some_below n one ≡ some_below n other
-some_same n one other same = ap (λ (test : ℕ → Bool). some_below n test) (fun_ext same)
 
 and_same : (b : Bool) → (b && b) ≡ b
 and_same true = refl

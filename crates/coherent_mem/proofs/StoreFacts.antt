@@ -18,11 +18,11 @@ use Rattle.mesi_directory.proofs.RowLemmas.{row_of-with_row_same}
 use Rattle.line_memory.specs.Notes.{access_notes}
 use Rattle.line_memory.specs.Memory.{IsIn}
 use Rattle.line_memory.specs.Tags.{held_state}
-use Rattle.line_memory.specs.Backing.{view_of, shape_of}
+use Rattle.line_memory.specs.Backing.{view_of, HasSameNumbers, shape_of}
 use Rattle.line_memory.specs.Access.{after_store}
 use Rattle.coherent_mem.specs.Moves.{IsAlone}
 use Rattle.coherent_mem.specs.Parts.{Parts, AreParts, cache_at, held, seen, shown}
-use Rattle.coherent_mem.specs.Steps.{HasSameNumbers, StepsTo, IsAccess, view_stored}
+use Rattle.coherent_mem.specs.Steps.{StepsTo, IsAccess, view_stored}
 use Rattle.coherent_mem.proofs.PartFacts.{IsRowed, row_in, rowed_line}
 use Rattle.coherent_mem.proofs.ViewFacts.{content_length, view_of_shown}
 use Rattle.coherent_mem.proofs.MissFacts.{no_content}

@@ -13,9 +13,8 @@ use Rattle.line_memory.specs.Tags.{Tag, Tags, without_line, each_below, some_bel
 use Rattle.line_memory.specs.Access.{put_front, shared_line}
 use Rattle.line_memory.specs.Notes.{note_of, evict_notes, leave_notes}
 use Rattle.line_memory.specs.Memory.{Memory, with_line, written}
-use Rattle.line_memory.specs.Backing.{BackingView, shape_of, copy_of, view_of}
+use Rattle.line_memory.specs.Backing.{BackingView, HasSameNumbers, shape_of, copy_of, view_of}
 use Rattle.coherent_mem.specs.Parts.{Parts, AreParts, held, shown}
-use Rattle.coherent_mem.specs.Steps.{HasSameNumbers}
 
 -- another list for one set of a holder
 abbrev pub relisted : Tags → ℕ → ℕ → List Tag → Tags
@@ -53,7 +52,7 @@ gone_notes h None = []
 gone_notes h (Some tag) = evict_notes h tag.0 tag.1
 
 -- No line becomes M in a holder's cache, and where one is M memory's own copy stays.
-pub record IsQuiet (old new : BackingView) : Type 0 where
+pub record HasNoNewDirty (old new : BackingView) : Type 0 where
   pub dirty : (l : Line) (k : ℕ) →
       held_state (shape_of new) new.tags k l ≡ Some M →
       held_state (shape_of old) old.tags k l ≡ Some M
@@ -70,7 +69,7 @@ row_with S row h = shared_with row h
 pub record IsMoved (list : List Tag) (own : List ℕ) (h : ℕ) (l : Line)
     (old new : Parts) : Type 0 where
   pub edits : Edits list own h l (shown old) (shown new)
-  pub quiet : IsQuiet (shown old) (shown new)
+  pub quiet : HasNoNewDirty (shown old) (shown new)
   pub are : AreParts new
 
 -- a line may come to h in this state: h hasn't got it, nobody owns it, and for E nobody has it
@@ -88,7 +87,7 @@ pub record IsShared (l : Line) (state : Mesi) (old new : Parts) : Type 0 where
   pub numbers : HasSameNumbers (shown old) (shown new)
   pub view : (shown new).view ≡ (shown old).view
   pub tags : (k s : ℕ) → (shown new).tags k s ≡ shared_tags (shown old) l k s
-  pub quiet : IsQuiet (shown old) (shown new)
+  pub quiet : HasNoNewDirty (shown old) (shown new)
   pub are : AreParts new
   pub absent : (k : ℕ) → held old l k ≡ None → held new l k ≡ None
   pub shared : (k : ℕ) (a : Content) → held new l k ≡ Some a → a.state ≡ S
@@ -125,7 +124,7 @@ pub record IsDropped (h : ℕ) (l : Line) (n : ℕ) (old new : Parts) : Type 0 w
   pub view : (shown new).view ≡ (shown old).view
   pub tags : (k s : ℕ) → (shown new).tags k s ≡ dropped_tags (shown old) h l n k s
   pub own : (bytes : List ℕ) → own_with (shown new) l bytes ≡ own_with (shown old) l bytes
-  pub quiet : IsQuiet (shown old) (shown new)
+  pub quiet : HasNoNewDirty (shown old) (shown new)
   pub are : AreParts new
 
 -- h is the only holder of a line, and its list with the line in front, in M, is the one after a
@@ -133,7 +132,7 @@ pub record IsDropped (h : ℕ) (l : Line) (n : ℕ) (old new : Parts) : Type 0 w
 pub record IsAlone (h : ℕ) (l : Line) (old new : Parts) : Type 0 where
   pub numbers : HasSameNumbers (shown old) (shown new)
   pub view : (shown new).view ≡ (shown old).view
-  pub quiet : IsQuiet (shown old) (shown new)
+  pub quiet : HasNoNewDirty (shown old) (shown new)
   pub are : AreParts new
   pub here : IsSome (held_state (shape_of (shown new)) (shown new).tags h l)
   pub alone : (k : ℕ) → k ≢ h → held new l k ≡ None

@@ -6,16 +6,7 @@ use Rattle.conda_base.specs.declared.Line.{Line}
 use Rattle.line_memory.specs.Tags.{Tags, no_tags}
 use Rattle.line_memory.specs.Copies.{copy_after}
 use Rattle.line_memory.specs.Owners.{HasSingleOwners}
-use Rattle.line_memory.specs.Backing.{BackingView, IsBacking, IsInRange, shape_of, copy_of, view_of}
-
--- no call changes these
-pub record HasSameNumbers (old new : BackingView) : Type 0 where
-  pub line_bytes : new.line_bytes ≡ old.line_bytes
-  pub base : new.base ≡ old.base
-  pub holders : new.holders ≡ old.holders
-  pub sets : new.sets ≡ old.sets
-  pub ways : new.ways ≡ old.ways
-  pub size : length new.view ≡ length old.view
+use Rattle.line_memory.specs.Backing.{BackingView, HasSameNumbers, IsBacking, IsInRange, shape_of, copy_of, view_of}
 
 -- `new` is `old` with these tags and this view, and with the copies that follow
 pub record StepsTo (after : Tags) (bytes : List ℕ) (old new : BackingView) : Type 0 where

@@ -1,1 +1,3 @@
-pub mod WordsFacts
+pub mod CommandFacts
+pub mod OptionFacts
+pub mod ValueFacts

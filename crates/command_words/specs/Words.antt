@@ -1,85 +1,53 @@
 -- The words that the program takes: a command, and behind it its options in any order.
-use Rattle.std.specs.Prelude.{◌≢◌, IfSome, ℕ, Bool, true, false, not, ◌&&◌, ◌==◌, List, [], ◌∷◌, codes, Option, Some, None, option_map, unwrap_or, slice_get, if◌then◌else◌}
-use Rattle.std.specs.List.{before_first, after_first, list_any, list_all}
-use Rattle.std.specs.Option.{option_to_list}
+use Rattle.std.specs.Prelude.{◌≢◌, IfSome, ℕ, ◌≤◌, ◌-◌, ◌^◌, true, false, List, [], ◌∷◌, codes, Option, Some, None, option_map, unwrap_or, if◌then◌else◌}
 use Rattle.std.specs.Str.{bytes_eq}
-use Rattle.command_words.specs.declared.words.FileNames.{FileNames}
-use Rattle.command_words.specs.declared.words.FrontOption.{FrontOption}
+use Rattle.conda_base.specs.Digits.{number_after}
+use Rattle.schedule_log.specs.Verdict.{most_events}
+use Rattle.command_words.specs.declared.command.RunFiles.{RunFiles}
+use Rattle.command_words.specs.declared.command.ProgramFiles.{ProgramFiles as ProgramWords}
+use Rattle.command_words.specs.declared.command.Command.{Command}
+use Rattle.command_words.specs.declared.command.Command.TheVariants as command
+use Rattle.command_words.specs.declared.table.Kind.TheVariants as kind
+use Rattle.command_words.specs.Options.{Given, Known, are_options, options_of, value_of}
 
--- an option that words give
-pub record Given : Type 0 where
-  pub name : List ℕ
-  pub value : List ℕ
+-- ---- the commands and their options
 
--- an option that a command takes
-pub record Known : Type 0 where
-  pub name : List ℕ
-  pub is_needed : Bool
+-- an option that names a file, and must stand
+abbrev pub needed_file : List ℕ → Known
+needed_file name = record { name = name; is_needed = true; kind = kind.File }
 
--- the equals sign
-abbrev pub is_equals : ℕ → Bool
-is_equals b = b == 61
+-- an option that names a file, and may be left out
+abbrev pub free_file : List ℕ → Known
+free_file name = record { name = name; is_needed = false; kind = kind.File }
 
--- a word that holds an option's name and value
-abbrev pub is_whole : List ℕ → Bool
-is_whole word = list_any is_equals word
+-- an option that is a number from one to another, and must stand
+abbrev pub needed_number : List ℕ → ℕ → ℕ → Known
+needed_number name from to = record { name = name; is_needed = true; kind = kind.Number from to }
 
--- such a word, cut at the first equals sign
-abbrev pub cut : List ℕ → Given
-cut word = record { name = before_first is_equals word; value = after_first is_equals word }
-
--- a name and the word behind it
-abbrev pub pair : List ℕ → List ℕ → Given
-pair name value = record { name = name; value = value }
-
--- the options that words give, `name=value` or `name` and `value`: a name at the end has the empty value
-abbrev pub options_of : List (List ℕ) → List Given
-options_of [] = []
-options_of (word ∷ []) = (if is_whole word then cut word else pair word []) ∷ []
-options_of (word ∷ next ∷ words) = if is_whole word then cut word ∷ options_of (next ∷ words) else pair word next ∷ options_of words
-
--- a value isn't empty and doesn't begin with a dash
-abbrev pub is_value : List ℕ → Bool
-is_value [] = false
-is_value (b ∷ bs) = not (b == 45)
-
--- the values that options give a name
-abbrev pub values_of : List ℕ → List Given → List (List ℕ)
-values_of name [] = []
-values_of name (option ∷ options) = if bytes_eq option.name name then option.value ∷ values_of name options else values_of name options
-
--- the first of them
-abbrev pub value_of : List ℕ → List Given → Option (List ℕ)
-value_of name options = slice_get (values_of name options) 0
-
--- one value, or none where the option isn't needed
-abbrev pub suits : Bool → List (List ℕ) → Bool
-suits is_needed [] = not is_needed
-suits is_needed (value ∷ []) = true
-suits is_needed (value ∷ next ∷ values) = false
-
--- an option that the table has, with a value
-abbrev pub is_option : List Known → Given → Bool
-is_option table option = list_any (λ known. bytes_eq option.name known.name) table && is_value option.value
-
--- an option of the table stands once at most, and does stand if it is needed
-abbrev pub has_place : List Given → Known → Bool
-has_place options known = suits known.is_needed (values_of known.name options)
-
--- the options are those that the table allows
-abbrev pub are_options : List Known → List Given → Bool
-are_options table options = list_all (is_option table) options && list_all (has_place options) table
-
--- the options of a run
+-- the options of `run`
 abbrev pub run_options : List Known
 run_options =
-    record { name = codes "--config"; is_needed = true }
-    ∷ record { name = codes "--image"; is_needed = true }
-    ∷ record { name = codes "--schedule"; is_needed = true }
-    ∷ record { name = codes "--order"; is_needed = true }
-    ∷ record { name = codes "--report"; is_needed = true }
-    ∷ record { name = codes "--output"; is_needed = false }
+    needed_file (codes "--config")
+    ∷ needed_file (codes "--image")
+    ∷ needed_file (codes "--schedule")
+    ∷ needed_file (codes "--order")
+    ∷ needed_file (codes "--report")
+    ∷ free_file (codes "--output")
     ∷ []
+
+-- those of `self`
+abbrev pub self_options : List Known
+self_options =
+    needed_number (codes "--seed") 0 (2 ^ 64 - 1)
+    ∷ needed_number (codes "--events") 1 most_events
+    ∷ needed_file (codes "--report")
+    ∷ []
+
+-- those of `asm` and of `dis`
+abbrev pub program_options : List Known
+program_options = needed_file (codes "--source") ∷ needed_file (codes "--program") ∷ []
+
+-- ---- what the words ask for
 
 -- the names of the files of a run
 pub record Files : Type 0 where
@@ -90,40 +58,79 @@ pub record Files : Type 0 where
   pub report : List ℕ
   pub output : Option (List ℕ)
 
--- the names as one list
-abbrev pub names_in : Files → List (List ℕ)
-names_in f = f.config ∷ f.image ∷ f.schedule ∷ f.order ∷ f.report ∷ option_to_list f.output
+-- those of a program's text and of its image
+pub record ProgramFiles : Type 0 where
+  pub source : List ℕ
+  pub program : List ℕ
 
-abbrev pub differs : List ℕ → List ℕ → Bool
-differs a b = not (bytes_eq a b)
+-- a command with what its options say: `self` has a seed, a number of events and its report
+pub data Asked : Type 0 where
+  Run : Files → Asked
+  SelfRun : ℕ → ℕ → List ℕ → Asked
+  Asm : ProgramFiles → Asked
+  Dis : ProgramFiles → Asked
 
--- no two of the names are equal
-abbrev pub are_different : List (List ℕ) → Bool
-are_different [] = true
-are_different (name ∷ names) = list_all (differs name) names && are_different names
+-- the name that an option gives
+abbrev pub name_in : List ℕ → List Given → List ℕ
+name_in name options = unwrap_or (value_of name options) []
 
--- the values of a run's options
+-- the number that an option gives
+abbrev pub amount_in : List ℕ → List Given → ℕ
+amount_in name options = number_after 0 (name_in name options)
+
 abbrev pub files_in : List Given → Files
 files_in options = record {
-  config = unwrap_or (value_of (codes "--config") options) [];
-  image = unwrap_or (value_of (codes "--image") options) [];
-  schedule = unwrap_or (value_of (codes "--schedule") options) [];
-  order = unwrap_or (value_of (codes "--order") options) [];
-  report = unwrap_or (value_of (codes "--report") options) [];
+  config = name_in (codes "--config") options;
+  image = name_in (codes "--image") options;
+  schedule = name_in (codes "--schedule") options;
+  order = name_in (codes "--order") options;
+  report = name_in (codes "--report") options;
   output = value_of (codes "--output") options;
 }
 
--- the options are those of a run, and name different files
-abbrev pub are_run_options : List Given → Bool
-are_run_options options = are_options run_options options && are_different (names_in (files_in options))
+abbrev pub program_files_in : List Given → ProgramFiles
+program_files_in options = record {
+  source = name_in (codes "--source") options;
+  program = name_in (codes "--program") options;
+}
+
+abbrev pub self_run_in : List Given → Asked
+self_run_in options =
+    SelfRun (amount_in (codes "--seed") options) (amount_in (codes "--events") options)
+    (name_in (codes "--report") options)
+
+-- it is asked where the table allows the options
+abbrev pub where_allowed : List Known → List Given → Asked → Option Asked
+where_allowed table options asked = if are_options table options then Some asked else None
+
+-- what a command with these options asks for
+abbrev pub asked_by : List ℕ → List Given → Option Asked
+asked_by name options =
+    if bytes_eq name (codes "run") then where_allowed run_options options (Run (files_in options))
+    else (if bytes_eq name (codes "self")
+    then where_allowed self_options options (self_run_in options)
+    else (if bytes_eq name (codes "asm")
+    then where_allowed program_options options (Asm (program_files_in options))
+    else (if bytes_eq name (codes "dis")
+    then where_allowed program_options options (Dis (program_files_in options))
+    else None)))
+
+-- what the words ask for, if they are the words of a command
+abbrev pub asked : List (List ℕ) → Option Asked
+asked [] = None
+asked (name ∷ words) = asked_by name (options_of words)
 
 -- the files that the words name, where they are the words of a run
-abbrev pub run_files : List (List ℕ) → Option Files
-run_files [] = None
-run_files (command ∷ words) = if bytes_eq command (codes "run") && are_run_options (options_of words) then Some (files_in (options_of words)) else None
+abbrev pub run_of : Option Asked → Option Files
+run_of (Some (Run files)) = Some files
+run_of other = None
 
--- the names as lists of bytes
-abbrev pub named : FileNames → Files
+abbrev pub run_files : List (List ℕ) → Option Files
+run_files words = run_of (asked words)
+
+-- ---- names as lists of bytes
+
+abbrev pub named : RunFiles → Files
 named n = record {
   config = n.config.now;
   image = n.image.now;
@@ -133,12 +140,26 @@ named n = record {
   output = option_map (λ s. s.now) n.output;
 }
 
--- an option at the front of some words
-abbrev pub given : FrontOption → Given
-given o = record { name = o.name.now; value = o.value.now }
+abbrev pub program_named : ProgramWords → ProgramFiles
+program_named n = record { source = n.source.now; program = n.program.now }
+
+abbrev pub command_named : Command → Asked
+command_named (command.Run files) = Run (named files)
+command_named (command.SelfRun seed events report) = SelfRun seed events report.now
+command_named (command.Asm files) = Asm (program_named files)
+command_named (command.Dis files) = Dis (program_named files)
+
+-- ---- what follows
 
 -- the names of the files that are written are pairwise different
 pub record AreApart (files : Files) : Type 0 where
   pub order_report : files.order ≢ files.report
   pub order_output : IfSome files.output (λ output. files.order ≢ output)
   pub report_output : IfSome files.output (λ output. files.report ≢ output)
+
+-- what is asked can be done: files that are apart, and a number of events in its range
+abbrev pub HasAllowedValues : Asked → Type 0
+HasAllowedValues (Run files) = AreApart files
+HasAllowedValues (SelfRun seed events report) = (1 ≤ events) × (events ≤ most_events)
+HasAllowedValues (Asm files) = files.source ≢ files.program
+HasAllowedValues (Dis files) = files.source ≢ files.program

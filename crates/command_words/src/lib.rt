@@ -1,9 +1,12 @@
-//! The words of the command line.
+//! The words of the command line: one table of options a command, and one reading for all of them.
 #![tactic(auto)]
 
-mod words;
+mod command;
+mod number;
+mod options;
+mod table;
 
-pub use words::{FileNames, names_of};
+pub use command::{Command, ProgramFiles, RunFiles, command_of, run_files};
 
 #[cfg(test)]
 mod tests;

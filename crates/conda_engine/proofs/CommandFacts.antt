@@ -1,136 +1,154 @@
--- A command, from its words to its files.
-use Rattle.std.proofs.Common.{◌≡◌, ◌≢◌, ℕ, List, [], IsTrue, sym, ◌∙◌, ap, subst, inl, inr}
-use Rattle.std.specs.Prelude.{◌⊎◌, Option, Some, None, IfSome, unwrap_or, take}
+-- The command `run`, from its words to its files.
+use Rattle.std.proofs.Common.{◌≡◌, ℕ, false, List, [], IsTrue, refl, sym, ◌∙◌, ap, subst, inl, inr}
+use Rattle.std.specs.Prelude.{◌⊎◌, Option, Some, None, IfSome, is_some, unwrap_or}
 use Rattle.conda_host.specs.declared.outside.Role.{Role}
 use Rattle.conda_host.specs.declared.outside.Role.TheVariants as role
-use Rattle.conda_host.specs.State.{HostState, IsLater}
-use Rattle.chip_config.specs.Settings.{configured, settings}
-use Rattle.chip_core.specs.Stands.{setup_for}
+use Rattle.conda_host.specs.State.{HostState}
+use Rattle.chip_config.specs.Settings.{Settings, configured, settings}
+use Rattle.chip_laws.specs.Design.{design_for}
 use Rattle.command_words.specs.Words.{Files}
 use Rattle.conda_engine.specs.declared.status.Status.{Status}
 use Rattle.conda_engine.specs.declared.status.Status.TheVariants as status
-use Rattle.conda_engine.specs.Command.{IsCommandAnswer, IsCommandComplete, aim_of}
-use Rattle.conda_engine.specs.Faults.{bytes_of, IsAnswer, IsCaused}
-use Rattle.conda_engine.specs.Outcome.{Ends, IsDone, IsStop, HasStopped, HasFront, HasFronts, KeepsOthers}
-use Rattle.conda_engine.specs.Preparing.{IsReadyFor, IsUnready, OnlyReads, PreparedView, aim_in, setup_in}
-use Rattle.conda_engine.specs.Verdict.{Aim, aim_of_schedule, aim_with, numbers_of, setup_of, status_of_bytes, status_of_image, status_of_schedule}
-use Rattle.conda_engine.proofs.DriveFacts.{fault_after, caused_after, complete_of_answer}
+use Rattle.command_run.specs.Driving.{bytes_of}
+use Rattle.conda_engine.specs.Ends.{IsLate}
+use Rattle.conda_engine.specs.Faults.{IsAnswer, IsFaultCaused}
+use Rattle.conda_engine.specs.Files.{aim_of}
+use Rattle.conda_engine.specs.Preparing.{IsEarly, IsReadyFor, IsUnready, OnlyOpens, PreparedView, is_config, is_first, design_in, unready_opens}
+use Rattle.conda_engine.specs.Verdict.{Account, aim_of_schedule, aim_with, design_of, design_said, settings_or_none, status_of_bytes, status_of_image, status_of_schedule}
 use Rattle.conda_engine.proofs.PrepareFacts.{verdict_of_image, verdict_of_schedule}
+use Rattle.conda_engine.specs.Answers.{Answers, HasCause}
+use Rattle.conda_engine.specs.Rows.{config_file, drive_command, drive_opens, first_files, outcome_of, read_files, run_command, run_creates, run_opens, run_outcome, schedule_outcome}
+use Rattle.conda_engine.proofs.AnswerFacts.{IsEndOf, answers_after, answers_early}
 
-front_after : (a b c : HostState) (r : Role) (name first second : List ℕ) → OnlyReads a b → r ≢ role.Config → r ≢ role.Image → IsLater b c → (IsTrue a.tells → first ≡ second)
-    → HasFront b c r name first → HasFront a c r name second
-front_after a b c r name first second p config image q same h = record {
-  front = λ none is.
-      let held = h.front (ap (λ x. x.created) (p.roles r config image) ∙ none) is in
-      record { count = held.count; front = λ tells. subst (λ t. c.file name ≡ Some (take held.count t)) (same (subst IsTrue p.later.tells (subst IsTrue q.tells tells))) (held.front tells) };
-}
+read_first : (files : Files) (r : Role) → is_some (read_files files r) ≡ false → is_first r ≡ false
+read_first files role.Config e = e
+read_first files role.Image e = e
+read_first files other e = refl
 
-output_front_after : (a b c : HostState) (output : Option (List ℕ)) (first second : List ℕ) → OnlyReads a b → IsLater b c → (IsTrue a.tells → first ≡ second)
-    → IfSome output (λ name. HasFront b c role.Output name first) → IfSome output (λ name. HasFront a c role.Output name second)
-output_front_after a b c None first second p q same h = tt
-output_front_after a b c (Some name) first second p q same h = front_after a b c role.Output name first second p (λ e. cc) (λ e. cc) q same h
+-- a run that came to its schedule has opened configuration and image
+first_opened : (files : Files) (answer : Status) → IsLate answer → (r : Role) → is_some (run_opens files answer r) ≡ false → is_first r ≡ false
+first_opened files status.Done late r e = read_first files r e
+first_opened files (status.ReadFault role.Schedule) late r e = read_first files r e
+first_opened files (status.ReadFault other) late r e = absurd late
+first_opened files (status.WriteFault q) late r e = read_first files r e
+first_opened files (status.Schedule line why) late r e = read_first files r e
+first_opened files (status.TooLarge role.Schedule limit) late r e = read_first files r e
+first_opened files (status.TooLarge other limit) late r e = absurd late
+first_opened files other late r e = absurd late
 
--- reading before a run changes nothing but what is known of its aim
-ends_after : (files : Files) (a b c : HostState) (first second : Aim) (answer : Status) → OnlyReads a b → IsLater b c → (IsTrue a.tells → first ≡ second) → Ends files b c first answer → Ends files a c second answer
-ends_after files a b c first second answer p q same h = record {
-  answered = answered_at h.answered;
-  caused = caused_after files a b c answer p.later h.caused;
-  done = λ d. record {
-    order = λ tells. (h.done d).order (at_b tells) ∙ ap (λ t. Some t.whole.order) (same tells);
-    report = λ tells. (h.done d).report (at_b tells) ∙ ap (λ t. Some t.whole.report) (same tells);
-    output = λ tells. subst (λ t. IfSome files.output (λ name. c.file name ≡ Some t.whole.output)) (same tells) ((h.done d).output (at_b tells));
-  };
-  stopped = λ st. record {
-    order = λ tells. (h.stopped st).order (at_b tells) ∙ ap (λ t. Some t.texts.order) (same tells);
-    output = λ tells. subst (λ t. IfSome files.output (λ name. c.file name ≡ Some t.texts.output)) (same tells) ((h.stopped st).output (at_b tells));
-    report = record { same = λ none. (h.stopped st).report.same (ap (λ r. r.created) report ∙ none) ∙ report };
-  };
-  fronts = record {
-    order = front_after a b c role.Order files.order _ _ p (λ e. cc) (λ e. cc) q (λ tells. ap (λ t. t.texts.order) (same tells)) h.fronts.order;
-    report = front_after a b c role.Report files.report _ _ p (λ e. cc) (λ e. cc) q (λ tells. ap (λ t. t.texts.report) (same tells)) h.fronts.report;
-    output = output_front_after a b c files.output _ _ p q (λ tells. ap (λ t. t.texts.output) (same tells)) h.fronts.output;
-  };
-}
+pub drive_ends_run : (files : Files) → IsEndOf (drive_command files) (run_command files)
+drive_ends_run files = record { opens = opens; creates = refl; first = refl; memory = refl }
   where
-    at_b : IsTrue a.tells → IsTrue b.tells
-    at_b tells = subst IsTrue (sym p.later.tells) tells
+    opens : (answer : Status) (r : Role) (n : List ℕ) → drive_opens files answer r ≡ Some n → run_opens files answer r ≡ Some n
+    opens answer role.Schedule n e = e
+    opens answer other n e = cc
 
-    report : b.role role.Report ≡ a.role role.Report
-    report = p.roles role.Report (λ e. cc) (λ e. cc)
+-- ---- the design of configuration and image
 
-    answered_at : IsAnswer files b c first.verdict answer → IsAnswer files a c second.verdict answer
-    answered_at (inl fault) = inl (fault_after files a b c answer p.later fault)
-    answered_at (inr is) = inr (λ tells. is (at_b tells) ∙ ap (λ t. t.verdict) (same tells))
+pub design_same : (files : Files) (a : HostState) (p : PreparedView) (h : IsReadyFor files a p) → IsTrue a.tells
+    → design_of (settings p.config) h.image.bytes ≡ design_said (bytes_of a files.config) (bytes_of a files.image)
+design_same files a p h tells =
+    ap (λ c. design_of c h.image.bytes) (sym (ap settings_or_none (ap configured (h.config.held.bytes_are tells) ∙ h.config.said)))
+    ∙ ap (design_said (bytes_of a files.config)) (sym (h.image.held.bytes_are tells))
 
--- the aim of a schedule on the chip that configuration and image say is that of all three
-aim_same : (files : Files) (a b : HostState) (p : PreparedView) (h : IsReadyFor files a p) → OnlyReads a b → IsTrue a.tells
-    → aim_of_schedule (setup_of (settings p.config) h.image.bytes) (bytes_of b files.schedule) ≡ aim_of files a
-aim_same files a b p h r tells =
-    let numbers : List ℕ = settings p.config in
+-- ---- the aim of a schedule on the chip that configuration and image say is that of all three
+
+aim_same : (o : Account) (files : Files) (a b : HostState) (p : PreparedView) (h : IsReadyFor files a p) → OnlyOpens is_first a b → IsTrue a.tells
+    → aim_of_schedule o (design_of (settings p.config) h.image.bytes) (bytes_of b files.schedule) ≡ aim_of o files a
+aim_same o files a b p h r tells =
+    let config : Settings = settings p.config in
     let image : List ℕ = h.image.bytes in
     let schedule : List ℕ = bytes_of b files.schedule in
-    let said : numbers ≡ numbers_of (configured (bytes_of a files.config)) = sym (ap numbers_of (ap configured (h.config.held.bytes_are tells) ∙ h.config.said)) in
     let shown : image ≡ bytes_of a files.image = sym (h.image.held.bytes_are tells) in
     let told : schedule ≡ bytes_of a files.schedule = ap (λ f. unwrap_or f []) (r.files files.schedule) in
-    let verdict : status_of_schedule (setup_of numbers image) schedule ≡ status_of_bytes (bytes_of a files.config) (bytes_of a files.image) (bytes_of a files.schedule) =
-    sym (verdict_of_schedule numbers image schedule h.image.held.within h.image.accepted)
-    ∙ ap (λ i. status_of_image numbers i schedule) shown
-    ∙ sym (verdict_of_image a files.config numbers (bytes_of a files.image) schedule h.config tells)
+    let verdict : status_of_schedule (design_of config image) schedule ≡ status_of_bytes (bytes_of a files.config) (bytes_of a files.image) (bytes_of a files.schedule) =
+    sym (verdict_of_schedule config image schedule h.image.held.within h.image.accepted)
+    ∙ ap (λ i. status_of_image config i schedule) shown
+    ∙ sym (verdict_of_image a files.config config (bytes_of a files.image) schedule h.config tells)
     ∙ ap (status_of_bytes (bytes_of a files.config) (bytes_of a files.image)) told in
-    ap (λ v. aim_with v (setup_of numbers image) schedule) verdict
-    ∙ ap (λ n. aim_with (aim_of files a).verdict (setup_of n image) schedule) said
-    ∙ ap (λ i. aim_with (aim_of files a).verdict (setup_of (numbers_of (configured (bytes_of a files.config))) i) schedule) shown
-    ∙ ap (aim_with (aim_of files a).verdict (setup_of (numbers_of (configured (bytes_of a files.config))) (bytes_of a files.image))) told
+    ap (λ v. aim_with o v (design_of config image) schedule) verdict
+    ∙ ap (λ d. aim_with o (aim_of o files a).verdict d schedule) (design_same files a p h tells)
+    ∙ ap (aim_with o (aim_of o files a).verdict (design_said (bytes_of a files.config) (bytes_of a files.image))) told
 
--- a run that was made ready and driven
-pub ends_of_command : (files : Files) (a b c : HostState) (p : PreparedView) (answer : Status) → IsReadyFor files a p → OnlyReads a b → IsLater b c
-    → Ends p.files b c (aim_in p b) answer → Ends files a c (aim_of files a) answer
-ends_of_command files a b c p answer h r q ends =
-    ends_after files a b c (aim_of_schedule (setup_in p) (bytes_of b files.schedule)) (aim_of files a) answer r q
-    (λ tells. ap (λ image. aim_of_schedule (setup_for p.config image) (bytes_of b files.schedule)) h.image.loaded ∙ aim_same files a b p h r tells)
-    (subst (λ f. Ends f b c (aim_of_schedule (setup_in p) (bytes_of b f.schedule)) answer) h.named ends)
+-- ---- a run that was made ready and driven
 
--- ---- over the words, which name files or don't
+run_answers : (o : Account) (files : Files) (a b c : HostState) (p : PreparedView) (answer : Status) → IsLate answer → IsReadyFor files a p → OnlyOpens is_first a b
+    → Answers (drive_command p.files) (schedule_outcome o (design_in p) (bytes_of b p.files.schedule)) b c answer → Answers (run_command files) (run_outcome o files a) a c answer
+run_answers o files a b c p answer late h r answers =
+    answers_after (drive_command files) (run_command files) is_first (schedule_outcome o (design_in p) (bytes_of b files.schedule)) (run_outcome o files a) a b c answer
+    (drive_ends_run files) (first_opened files answer late) r
+    (λ tells. ap outcome_of (ap (λ image. aim_of_schedule o (design_for p.config image) (bytes_of b files.schedule)) h.image.loaded ∙ aim_same o files a b p h r tells))
+    (subst (λ f. Answers (drive_command f) (schedule_outcome o (design_in p) (bytes_of b f.schedule)) b c answer) h.named answers)
 
-pub ends_for : (o : Option Files) (a b c : HostState) (p : PreparedView) (answer : Status) → IfSome o (λ files. IsReadyFor files a p) → OnlyReads a b → IsLater b c
-    → Ends p.files b c (aim_in p b) answer → IfSome o (λ files. Ends files a c (aim_of files a) answer)
-ends_for None a b c p answer h r q ends = tt
-ends_for (Some files) a b c p answer h r q ends = ends_of_command files a b c p answer h r q ends
+pub answers_for : (o : Account) (w : Option Files) (a b c : HostState) (p : PreparedView) (answer : Status) → IsLate answer → IfSome w (λ files. IsReadyFor files a p) → OnlyOpens is_first a b
+    → Answers (drive_command p.files) (schedule_outcome o (design_in p) (bytes_of b p.files.schedule)) b c answer → IfSome w (λ files. Answers (run_command files) (run_outcome o files a) a c answer)
+answers_for o None a b c p answer late h r answers = tt
+answers_for o (Some files) a b c p answer late h r answers = run_answers o files a b c p answer late h r answers
 
-pub done_for : (o : Option Files) (a c : HostState) (answer : Status) → IfSome o (λ files. Ends files a c (aim_of files a) answer) → answer ≡ status.Done → IfSome o (λ files. IsDone files a c (aim_of files a).whole)
-done_for None a c answer h d = tt
-done_for (Some files) a c answer h d = h.done d
+-- ---- a run that wasn't made ready
 
-pub answer_for : (o : Option Files) (a c : HostState) (answer : Status) → IfSome o (λ files. Ends files a c (aim_of files a) answer) → IfSome o (λ files. IsCommandAnswer files a c answer)
-answer_for None a c answer h = tt
-answer_for (Some files) a c answer h = inr h.answered
+unready_cause : (o : Account) (files : Files) (a c : HostState) (answer : Status) → IsEarly answer → IsFaultCaused files a c answer
+    → (answer ≡ status.OutOfMemory) ⊎ IsAnswer files a c (aim_of o files a).verdict answer → HasCause (run_command files) (run_outcome o files a) a c answer
+unready_cause o files a c (status.ReadFault role.Config) early caused is = caused
+unready_cause o files a c (status.ReadFault role.Image) early caused is = caused
+unready_cause o files a c (status.ReadFault other) early caused is = absurd early
+unready_cause o files a c (status.WriteFault r) early caused is = absurd early
+unready_cause o files a c status.OutOfMemory early caused is = refl
+unready_cause o files a c status.Done early caused is = absurd early
+unready_cause o files a c status.Usage early caused is = absurd early
+unready_cause o files a c (status.Schedule line why) early caused is = absurd early
+unready_cause o files a c (status.Syntax line why) early caused is = absurd early
+unready_cause o files a c (status.Config f) early caused (inl e) = λ told. cc
+unready_cause o files a c (status.Config f) early caused (inr (inl h)) = absurd h
+unready_cause o files a c (status.Config f) early caused (inr (inr h)) = h
+unready_cause o files a c (status.Image f) early caused (inl e) = λ told. cc
+unready_cause o files a c (status.Image f) early caused (inr (inl h)) = absurd h
+unready_cause o files a c (status.Image f) early caused (inr (inr h)) = h
+unready_cause o files a c (status.TooLarge r limit) early caused (inl e) = λ told. cc
+unready_cause o files a c (status.TooLarge r limit) early caused (inr (inl h)) = absurd h
+unready_cause o files a c (status.TooLarge r limit) early caused (inr (inr h)) = h
 
-pub cause_for : (o : Option Files) (a c : HostState) (answer : Status) → IfSome o (λ files. Ends files a c (aim_of files a) answer) → IfSome o (λ files. IsCaused files a c answer)
-cause_for None a c answer h = tt
-cause_for (Some files) a c answer h = h.caused
+none_early : (files : Files) (answer : Status) → IsEarly answer → (r : Role) → run_creates files answer r ≡ None
+none_early files (status.ReadFault role.Config) early r = refl
+none_early files (status.ReadFault role.Image) early r = refl
+none_early files (status.ReadFault other) early r = absurd early
+none_early files (status.Config f) early r = refl
+none_early files (status.Image f) early r = refl
+none_early files (status.TooLarge role.Config limit) early r = refl
+none_early files (status.TooLarge role.Image limit) early r = refl
+none_early files (status.TooLarge other limit) early r = absurd early
+none_early files status.OutOfMemory early r = refl
+none_early files other early r = absurd early
 
-pub complete_for : (o : Option Files) (a c : HostState) (answer : Status) → IfSome o (λ files. Ends files a c (aim_of files a) answer) → IfSome o (λ files. IsCommandComplete files a c answer)
-complete_for None a c answer h = tt
-complete_for (Some files) a c answer h = inr (complete_of_answer files a c (aim_of files a).verdict answer h.answered)
+config_opened : (files : Files) (r : Role) → is_some (config_file files r) ≡ false → is_config r ≡ false
+config_opened files role.Config e = e
+config_opened files other e = refl
 
-pub stopped_for : (o : Option Files) (a c : HostState) (answer : Status) → IfSome o (λ files. Ends files a c (aim_of files a) answer) → IsStop answer → IfSome o (λ files. HasStopped files a c (aim_of files a).texts)
-stopped_for None a c answer h st = tt
-stopped_for (Some files) a c answer h st = h.stopped st
+both_opened : (files : Files) (r : Role) → is_some (first_files files r) ≡ false → is_first r ≡ false
+both_opened files role.Config e = e
+both_opened files role.Image e = e
+both_opened files other e = refl
 
-pub fronts_for : (o : Option Files) (a c : HostState) (answer : Status) → IfSome o (λ files. Ends files a c (aim_of files a) answer) → IfSome o (λ files. HasFronts files a c (aim_of files a).texts)
-fronts_for None a c answer h = tt
-fronts_for (Some files) a c answer h = h.fronts
+early_opened : (files : Files) (answer : Status) → IsEarly answer → (r : Role) → is_some (run_opens files answer r) ≡ false → unready_opens answer r ≡ false
+early_opened files (status.ReadFault role.Config) early r e = config_opened files r e
+early_opened files (status.ReadFault role.Image) early r e = both_opened files r e
+early_opened files (status.ReadFault other) early r e = absurd early
+early_opened files (status.Config f) early r e = config_opened files r e
+early_opened files (status.Image f) early r e = both_opened files r e
+early_opened files (status.TooLarge role.Config limit) early r e = config_opened files r e
+early_opened files (status.TooLarge role.Image limit) early r e = both_opened files r e
+early_opened files (status.TooLarge other limit) early r e = absurd early
+early_opened files status.OutOfMemory early r e = both_opened files r e
+early_opened files other early r e = absurd early
 
-pub others_for : (o : Option Files) (a b c : HostState) (p : PreparedView) → IfSome o (λ files. IsReadyFor files a p) → OnlyReads a b → KeepsOthers p.files b c → IfSome o (λ files. KeepsOthers files a c)
-others_for None a b c p h r k = tt
-others_for (Some files) a b c p h r k = record {
-  same = λ tells n order report output. (subst (λ f. KeepsOthers f b c) h.named k).same (subst IsTrue (sym r.later.tells) tells) n order report output ∙ r.files n;
-}
-
-pub unready_complete : (o : Option Files) (a c : HostState) (answer : Status) → IfSome o (λ files. IsUnready files a c answer) → IfSome o (λ files. IsCommandComplete files a c answer)
-unready_complete None a c answer h = tt
-unready_complete (Some files) a c answer h = go h.answered
+pub unready_for : (o : Account) (w : Option Files) (a c : HostState) (answer : Status) → IfSome w (λ files. IsUnready files a c answer) → OnlyOpens (unready_opens answer) a c
+    → IfSome w (λ files. Answers (run_command files) (run_outcome o files a) a c answer)
+unready_for o None a c answer h r = tt
+unready_for o (Some files) a c answer h r =
+    answers_early (run_command files) (unready_opens answer) (run_outcome o files a) a c answer (early_opened files answer h.early) (none_early files answer h.early) r
+    (unready_cause o files a c answer h.early h.caused (go h.answered))
   where
-    go : (answer ≡ status.OutOfMemory) ⊎ ((schedule : List ℕ) → IsAnswer files a c (status_of_bytes (bytes_of a files.config) (bytes_of a files.image) schedule) answer) → IsCommandComplete files a c answer
-    go (inl none) = inl none
-    go (inr is) = inr (complete_of_answer files a c (aim_of files a).verdict answer (is (bytes_of a files.schedule)))
+    go : (answer ≡ status.OutOfMemory) ⊎ ((schedule : List ℕ) → IsAnswer files a c (status_of_bytes (bytes_of a files.config) (bytes_of a files.image) schedule) answer)
+        → (answer ≡ status.OutOfMemory) ⊎ IsAnswer files a c (aim_of o files a).verdict answer
+    go (inl e) = inl e
+    go (inr f) = inr (f (bytes_of a files.schedule))

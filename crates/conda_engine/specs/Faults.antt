@@ -1,15 +1,11 @@
 -- Answers that the host causes.
-use Rattle.std.specs.Prelude.{◌≡◌, ◌⊎◌, ℕ, List, [], IsTrue, Option, Some, None, IsSomeAnd, unwrap_or}
+use Rattle.std.specs.Prelude.{◌≡◌, ◌⊎◌, ℕ, List, IsTrue, Option, Some, None, IsSomeAnd}
 use Rattle.conda_host.specs.declared.outside.Role.{Role}
 use Rattle.conda_host.specs.declared.outside.Role.TheVariants.{Config, Image, Schedule, Order, Report, Output}
 use Rattle.conda_host.specs.State.{HostState, Rose}
+use Rattle.command_words.specs.Words.{Files}
 use Rattle.conda_engine.specs.declared.status.Status.{Status}
 use Rattle.conda_engine.specs.declared.status.Status.TheVariants as status
-use Rattle.command_words.specs.Words.{Files}
-
--- the bytes of a file, none where there is no such file
-abbrev pub bytes_of : HostState → List ℕ → List ℕ
-bytes_of s name = unwrap_or (s.file name) []
 
 -- the name of a role that a run opens, and of one that it creates
 abbrev pub opened_name : Files → Role → Option (List ℕ)
@@ -26,16 +22,26 @@ created_name files role = None
 
 -- an answer whose cause is the host: the count of its role and of the role's name rose
 abbrev pub IsFault : Files → HostState → HostState → Status → Type 0
-IsFault files old new (status.ReadFault role) = IsSomeAnd (opened_name files role) (λ name. Rose old new role name)
-IsFault files old new (status.WriteFault role) = IsSomeAnd (created_name files role) (λ name. Rose old new role name)
+IsFault files old new (status.ReadFault role) =
+    IsSomeAnd (opened_name files role) (Rose old new role)
+IsFault files old new (status.WriteFault role) =
+    IsSomeAnd (created_name files role) (Rose old new role)
 IsFault files old new other = ⊥
 
 -- an answer that says that the host failed has this cause
-abbrev pub IsCaused : Files → HostState → HostState → Status → Type 0
-IsCaused files old new (status.ReadFault role) = IsFault files old new (status.ReadFault role)
-IsCaused files old new (status.WriteFault role) = IsFault files old new (status.WriteFault role)
-IsCaused files old new other = Unit {0}
+abbrev pub IsFaultCaused : Files → HostState → HostState → Status → Type 0
+IsFaultCaused files old new (status.ReadFault role) =
+    IsFault files old new (status.ReadFault role)
+IsFaultCaused files old new (status.WriteFault role) =
+    IsFault files old new (status.WriteFault role)
+IsFaultCaused files old new other = Unit {0}
 
 -- the answer is the verdict, or the host failed
 abbrev pub IsAnswer : Files → HostState → HostState → Status → Status → Type 0
-IsAnswer files old new verdict answer = IsFault files old new answer ⊎ (IsTrue old.tells → answer ≡ verdict)
+IsAnswer files old new verdict answer =
+    IsFault files old new answer ⊎ (IsTrue old.tells → answer ≡ verdict)
+
+-- where no count of the host rose, it is the verdict
+abbrev pub IsComplete : HostState → HostState → Status → Status → Type 0
+IsComplete old new verdict answer = IsTrue old.tells
+    → ((role : Role) (name : List ℕ) → Rose old new role name → ⊥) → answer ≡ verdict

@@ -20,6 +20,7 @@ code_of (status.Image f) = 6
 code_of (status.Schedule line why) = 7
 code_of (status.TooLarge r limit) = 8
 code_of status.OutOfMemory = 9
+code_of (status.Syntax line why) = 13
 
 abbrev pub name_of_role : Role → List ℕ
 name_of_role role.Config = codes "config"
@@ -98,8 +99,14 @@ text_of_status status.Done = []
 text_of_status status.Usage = codes "conda: usage"
 text_of_status (status.ReadFault r) = codes "conda: cannot read " ++ name_of_role r
 text_of_status (status.WriteFault r) = codes "conda: cannot write " ++ name_of_role r
-text_of_status (status.Config f) = codes "conda: config fault " ++ decimal (config_fault_number f) ++ config_fault_held f
-text_of_status (status.Image f) = codes "conda: image fault " ++ decimal (image_fault_number f) ++ image_fault_held f
-text_of_status (status.Schedule line why) = codes "conda: schedule line " ++ decimal line ++ codes " fault " ++ decimal why
-text_of_status (status.TooLarge r limit) = codes "conda: " ++ name_of_role r ++ codes " passes " ++ decimal limit
+text_of_status (status.Config f) = codes "conda: config fault " ++ decimal (config_fault_number f)
+    ++ config_fault_held f
+text_of_status (status.Image f) = codes "conda: image fault " ++ decimal (image_fault_number f)
+    ++ image_fault_held f
+text_of_status (status.Schedule line why) = codes "conda: schedule line " ++ decimal line
+    ++ codes " fault " ++ decimal why
+text_of_status (status.TooLarge r limit) = codes "conda: " ++ name_of_role r ++ codes " passes "
+    ++ decimal limit
 text_of_status status.OutOfMemory = codes "conda: out of memory"
+text_of_status (status.Syntax line why) = codes "conda: syntax line " ++ decimal line
+    ++ codes " fault " ++ decimal why

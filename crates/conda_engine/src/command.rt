@@ -1,48 +1,76 @@
-// The command.
-ghost use Rattle.std.specs.Prelude.{◌≡◌, ◌↔◌, None, IfSome, map, string_bytes};
-ghost use Rattle.conda_engine.specs.Command.{IsCommandAnswer, IsCommandComplete, IsUnmade, MadeNothing, aim_of};
-ghost use Rattle.conda_engine.specs.Faults.{IsCaused};
-ghost use Rattle.conda_engine.specs.Outcome.{IsDone, IsStop, HasStopped, HasFronts, KeepsOthers};
+// The commands.
+ghost use Rattle.std.specs.Prelude.{◌≡◌, ◌≢◌, ◌↔◌, None, IfSome};
+ghost use Rattle.command_words.specs.Words.{AreApart, named};
+ghost use Rattle.conda_engine.specs.Answers.{Answers};
+ghost use Rattle.conda_engine.specs.Commands.{AnswersAsked, HoldsAtDone, asked_of};
+ghost use Rattle.conda_engine.specs.Headline.{HasHeadlineAtDone};
+ghost use Rattle.conda_engine.specs.Rows.{run_command, run_outcome};
 ghost use Rattle.conda_engine.specs.StatusText.{IsTold};
-ghost use Rattle.command_words.specs.Words.{run_files};
+ghost use Rattle.conda_engine.specs.Verdict.{chip_account};
 
 use crate::Status;
+use crate::assembling::asm;
+use crate::disassembling::dis;
 use crate::driving::drive;
-use crate::prepared::prepare;
+use crate::generated::self_run;
+use crate::prepared::{Prepared, prepare_files};
+use chip_core::Chip;
+use command_words::{Command, RunFiles, command_of};
 use conda_host::Host;
 use std::alloc::Global;
 
-/// Runs the command that the words are: `run` and its options.
-///
-/// Where memory runs out the answer is `OutOfMemory`; no clause says when.
-pub fn conda<H: Host>(alloc: Global, words: &[String], host: &mut H) -> Status
-    // At Done order, report and output hold the texts of one flat memory that executes the written order, in which
-    // every event of the schedule has its entry.
-    ensures done { result ≡ Status.Done → IfSome (run_files (map string_bytes words.now)) (λ files. IsDone files (H.state host.old) (H.state host.new) (aim_of files (H.state host.old)).whole) }
-
-    // The words alone decide whether it is Usage, and then nothing is touched.
-    ensures usage { (result ≡ Status.Usage) ↔ (run_files (map string_bytes words.now) ≡ None) }
-    ensures untouched { result ≡ Status.Usage → H.state host.new ≡ H.state host.old }
-
-    // Any other answer is what the bytes lead to, or a fault whose count rose, or want of memory.
-    ensures answer { IfSome (run_files (map string_bytes words.now)) (λ files. IsCommandAnswer files (H.state host.old) (H.state host.new) result) }
-    ensures cause { IfSome (run_files (map string_bytes words.now)) (λ files. IsCaused files (H.state host.old) (H.state host.new) result) }
-    ensures complete { IfSome (run_files (map string_bytes words.now)) (λ files. IsCommandComplete files (H.state host.old) (H.state host.new) result) }
-
-    // Want of memory is a status of its own, also where the configuration or the image finds none.
+// Runs a schedule on the chip.
+fn run<H: Host>(alloc: Global, names: &RunFiles, host: &mut H) -> Status
+    requires { AreApart (named names.now) }
+    ensures answers { Answers (run_command (named names.now))
+        (run_outcome chip_account (named names.now) (H.state host.old))
+        (H.state host.old) (H.state host.new) result }
+    ensures headline { HasHeadlineAtDone (named names.now) (H.state host.old) (H.state host.new)
+        result }
     ensures told { IsTold result }
-
-    // What the files hold where it isn't Done.
-    ensures stopped { IsStop result → IfSome (run_files (map string_bytes words.now)) (λ files. HasStopped files (H.state host.old) (H.state host.new) (aim_of files (H.state host.old)).texts) }
-    ensures fronts { IfSome (run_files (map string_bytes words.now)) (λ files. HasFronts files (H.state host.old) (H.state host.new) (aim_of files (H.state host.old)).texts) }
-    ensures unmade { IsUnmade result → MadeNothing (H.state host.old) (H.state host.new) }
-    ensures others { IfSome (run_files (map string_bytes words.now)) (λ files. KeepsOthers files (H.state host.old) (H.state host.new)) }
+    ensures known { result ≢ Status.Usage }
 {
-    match prepare(alloc, words, host) {
+    let prepared: Result<Prepared<Chip>, Status> = prepare_files(alloc, names, host);
+    match prepared {
         Ok(prepared) => {
             let (status, _) = drive(prepared, host);
             status
         }
         Err(status) => status,
+    }
+}
+
+/// Runs the command that the words are: `run`, `self`, `asm` or `dis` with its options.
+///
+/// Where memory runs out the answer is `OutOfMemory`; no clause says when.
+pub fn conda<H: Host>(alloc: Global, words: &[String], host: &mut H) -> Status
+    // The words alone decide whether it is Usage, and then nothing is touched.
+    ensures usage { (result ≡ Status.Usage) ↔ (asked_of words.now ≡ None) }
+    ensures untouched { result ≡ Status.Usage → H.state host.new ≡ H.state host.old }
+
+    // What it answers and leaves, by what the bytes of its files lead to.
+    ensures answers { IfSome (asked_of words.now)
+        (AnswersAsked (H.state host.old) (H.state host.new) result) }
+
+    // At Done the files of a run are the texts of one flat memory that executes the written order,
+    // and the laws hold of its events, as of those of a generated workload.
+    ensures headline { IfSome (asked_of words.now)
+        (HoldsAtDone (H.state host.old) (H.state host.new) result) }
+
+    // Want of memory is a status of its own, also where the configuration or the image finds none.
+    ensures told { IsTold result }
+{
+    match command_of(words) {
+        Some(Command::Run(files)) => run(alloc, &files, host),
+        Some(Command::Asm(files)) => asm(alloc, &files, host),
+        Some(Command::Dis(files)) => dis(alloc, &files, host),
+        Some(
+            Command::SelfRun {
+                seed,
+                events,
+                report,
+            },
+        ) => self_run(alloc, seed, events, report, host),
+        None => Status::Usage,
     }
 }

@@ -1,28 +1,54 @@
 // The first steps of a run: configuration and image are read.
-ghost use Rattle.std.specs.Prelude.{◌≡◌, None, Ok, length, IfOk, IfErr};
-ghost use Rattle.conda_host.specs.State.{IsReading};
+ghost use Rattle.std.specs.Prelude.{◌≡◌, IsTrue, None, Ok, length, IfOk, IfErr, OnOk, OnErr};
+ghost use Rattle.conda_host.specs.State.{IsReading, is_opened, Opens, Rose};
+ghost use Rattle.conda_host.specs.Whole.{ReadsWhole};
 ghost use Rattle.conda_host.specs.declared.outside.Role.TheVariants as role;
 ghost use Rattle.chip_config.specs.Settings.{configured, settings};
 ghost use Rattle.elf_loader.specs.Image.{image_of};
-ghost use Rattle.conda_engine.specs.Preparing.{HoldsFile, IsFileError, IsConfigured, IsBytesError, IsConfigError, IsImageError, IsLoaded, IsLoadError};
+ghost use Rattle.conda_engine.specs.Preparing.{HoldsFile, IsReadError, IsFileError, IsConfigured, IsBytesError, IsConfigError, IsImageError, IsLoaded, IsLoadError};
 ghost use Rattle.conda_engine.specs.StatusText.{IsTold};
 ghost use Rattle.conda_engine.specs.Verdict.{refusal_of};
 
 use crate::Status;
-use crate::calls::{open, read};
+use crate::limits::{CONFIG_LIMIT, IMAGE_LIMIT};
 use chip_config::{Config, ConfigFault};
-use conda_host::{Host, Role};
+use conda_host::{Host, ReadError, Role, read_all};
 use elf_loader::{Image, ImageFault, load};
 use std::alloc::Global;
 
-/// The most bytes of a configuration.
-const CONFIG_LIMIT: usize = 65_536;
+fn open<H: Host>(host: &mut H, role: Role, name: &str) -> Result<(), Status>
+    ensures ok { OnOk result (Opens (H.state host.old) (H.state host.new) role name.now) }
+    ensures err { IfErr result (λ e. e ≡ Status.ReadFault role) }
+    ensures cause { OnErr result (Rose (H.state host.old) (H.state host.new) role name.now) }
+    ensures rest { IsReading (H.state host.old) (H.state host.new) role }
+{
+    match host.open(role, name) {
+        Ok(()) => Ok(()),
+        Err(_) => Err(Status::ReadFault(role)),
+    }
+}
 
-/// The most bytes of an image.
-const IMAGE_LIMIT: usize = 33_554_432;
+// All the bytes of an opened role, where they are no more than the limit.
+fn read<H: Host>(alloc: Global, host: &mut H, role: Role, limit: usize) -> Result<Vec<u8>, Status>
+    requires { IsTrue (is_opened (H.state host.old) role) }
+    ensures ok { IfOk result (λ bytes. ReadsWhole (H.state host.old) role limit bytes.items) }
+    ensures err { IfErr result (λ e. IsReadError (H.state host.old)
+        (H.state host.new) role limit e) }
+    ensures rest { IsReading (H.state host.old) (H.state host.new) role }
+{
+    match read_all(alloc, host, role, limit) {
+        Ok(bytes) => Ok(bytes),
+        Err(ReadError::Failed) => Err(Status::ReadFault(role)),
+        Err(ReadError::TooLarge) => Err(Status::TooLarge {
+            role,
+            limit: limit as u64,
+        }),
+        Err(ReadError::OutOfMemory) => Err(Status::OutOfMemory),
+    }
+}
 
-// Reads a file.
-fn read_file<H: Host>(
+/// Reads a file.
+pub fn read_file<H: Host>(
     alloc: Global,
     host: &mut H,
     role: Role,
@@ -30,7 +56,8 @@ fn read_file<H: Host>(
     limit: usize,
 ) -> Result<Vec<u8>, Status>
     ensures ok { IfOk result (λ file. HoldsFile (H.state host.old) name.now limit file.items) }
-    ensures err { IfErr result (λ e. IsFileError (H.state host.old) (H.state host.new) role name.now limit e) }
+    ensures err { IfErr result (λ e. IsFileError (H.state host.old)
+        (H.state host.new) role name.now limit e) }
     ensures rest { IsReading (H.state host.old) (H.state host.new) role }
 {
     open(host, role, name)?;
@@ -52,7 +79,8 @@ fn config_of(alloc: Global, bytes: &[u8]) -> Result<Config, Status>
 
 /// Reads the configuration.
 pub fn read_config<H: Host>(alloc: Global, name: &str, host: &mut H) -> Result<Config, Status>
-    ensures ok { IfOk result (λ config. IsConfigured (H.state host.old) name.now (settings config)) }
+    ensures ok { IfOk result (λ config. IsConfigured (H.state host.old) name.now
+        (settings config)) }
     ensures err { IfErr result (IsConfigError (H.state host.old) (H.state host.new) name.now) }
     ensures told { IfErr result IsTold }
     ensures rest { IsReading (H.state host.old) (H.state host.new) role.Config }
@@ -61,10 +89,11 @@ pub fn read_config<H: Host>(alloc: Global, name: &str, host: &mut H) -> Result<C
     config_of(alloc, &bytes)
 }
 
-// The image that bytes are.
-fn image_in(alloc: Global, config: &Config, file: &[u8]) -> Result<Image, Status>
+/// The image that bytes are.
+pub fn image_in(alloc: Global, config: &Config, file: &[u8]) -> Result<Image, Status>
     ensures accepted { IfOk result (λ image. refusal_of (settings config.now) file.now ≡ None) }
-    ensures image { IfOk result (λ image. image ≡ image_of file.now config.now.mem_base config.now.mem_bytes) }
+    ensures image { IfOk result (λ image. image
+        ≡ image_of file.now config.now.mem_base config.now.mem_bytes) }
     ensures size { IfOk result (λ image. length image.code.bytes ≡ config.now.mem_bytes) }
     ensures err { IfErr result (IsImageError (settings config.now) file.now) }
     ensures told { IfErr result IsTold }
@@ -84,7 +113,8 @@ pub fn load_image<H: Host>(
     host: &mut H,
 ) -> Result<Image, Status>
     ensures ok { IfOk result (IsLoaded (settings config.now) (H.state host.old) name.now) }
-    ensures err { IfErr result (IsLoadError (settings config.now) (H.state host.old) (H.state host.new) name.now) }
+    ensures err { IfErr result (IsLoadError (settings config.now) (H.state host.old)
+        (H.state host.new) name.now) }
     ensures told { IfErr result IsTold }
     ensures rest { IsReading (H.state host.old) (H.state host.new) role.Image }
 {

@@ -1,64 +1,79 @@
 // A run that is ready.
-ghost use Rattle.std.specs.Prelude.{◌≡◌, ◌↔◌, None, Err, IfOk, IfErr, IfSome, map, string_bytes};
-ghost use Rattle.conda_engine.specs.Preparing.{OnlyReads, IsReadyFor, IsUnready};
+ghost use Rattle.std.specs.Prelude.{◌≡◌, ◌↔◌, None, Err, IfOk, IfErr, IfSome};
+ghost use Rattle.command_words.specs.Words.{AreApart, named};
+ghost use Rattle.conda_engine.specs.Files.{files_of};
+ghost use Rattle.conda_engine.specs.Preparing.{IsReadyFor, IsUnready, OnlyOpens, prepare_opens};
 ghost use Rattle.conda_engine.specs.StatusText.{IsTold};
-ghost use Rattle.command_words.specs.Words.{AreApart, named, run_files};
 
 use crate::Status;
 use crate::files::{FileWords, copy_names};
 use crate::loading::{load_image, read_config};
 use chip_config::Config;
-use chip_core::Chip;
-use chip_run::ScheduleRun;
-use command_words::{FileNames, names_of};
+use command_words::{RunFiles, run_files};
 use conda_host::Host;
 use elf_loader::Image;
+use machine_run::{Simulator, Task};
 use std::alloc::{AllocError, Global};
 use std::marker::Model;
 
-/// A run that is ready: all its memory is taken, its chip is at the start, and no file was created.
+/// A run that is ready: all its memory is taken, its machine is at the start, and no file was
+/// created.
 #[derive(Drop)]
-pub struct Prepared {
+pub struct Prepared<M: Simulator> {
     config: Config,
     entry: u32,
     files: FileWords,
-    task: ScheduleRun,
+    task: Task<M>,
 }
 
-impl Model for Prepared {
-    ghost use Rattle.std.specs.Prelude.{[]};
-    ghost use Rattle.chip_core.specs.Stands.{Stands, setup_for};
-    ghost use Rattle.conda_engine.specs.Preparing.{PreparedView, IsUnused, worded};
+impl<M: Simulator> Model for Prepared<M> {
+    ghost use Rattle.std.specs.Prelude.{[], is_some};
+    ghost use Rattle.chip_laws.specs.Design.{design_for};
+    ghost use Rattle.command_words.specs.Words.{AreApart};
+    ghost use Rattle.machine_run.specs.Tasks.{IsNewTask};
+    ghost use Rattle.conda_engine.specs.Files.{names_in};
+    ghost use Rattle.conda_engine.specs.Preparing.{PreparedView};
 
     ghost Value = { PreparedView };
 
-    ghost view = { λ p. record { config = p.config; image = record { entry = p.entry; code = p.task.run.chip.code }; files = worded p.files } };
+    ghost view = { λ p. record {
+      config = p.config;
+      image = record { entry = p.entry; code = M.code p.task.run.machine };
+      files = names_in p.files;
+    } };
 
-    ghost invariant = { λ p. IsUnused (worded p.files) p.task.run × Stands (setup_for p.config (record { entry = p.entry; code = p.task.run.chip.code })) p.task.run.chip [] };
+    ghost invariant = { λ p. AreApart (names_in p.files)
+        × IsNewTask (is_some (names_in p.files).output) p.task
+        × M.stands (design_for p.config (record {
+          entry = p.entry;
+          code = M.code p.task.run.machine;
+        })) p.task.run.machine [] };
 }
 
-impl Prepared {
-    ghost use Rattle.std.specs.Prelude.{◌≡◌, [], length, IfOk};
-    ghost use Rattle.chip_core.specs.Stands.{Stands};
-    ghost use Rattle.conda_engine.specs.Preparing.{IsUnused, setup_in, worded};
+impl<M: Simulator> Prepared<M> {
+    ghost use Rattle.std.specs.Prelude.{◌≡◌, [], length, IfOk, is_some};
     ghost use Rattle.command_words.specs.Words.{AreApart, named};
+    ghost use Rattle.machine_run.specs.Tasks.{IsNewTask};
+    ghost use Rattle.conda_engine.specs.Files.{names_in};
+    ghost use Rattle.conda_engine.specs.Preparing.{design_in};
 
     // Takes the memory of a run.
     fn new(
         alloc: Global,
         config: Config,
-        names: &FileNames,
+        names: &RunFiles,
         image: Image,
-    ) -> Result<Prepared, AllocError>
+    ) -> Result<Prepared<M>, AllocError>
         requires apart { AreApart (named names.now) }
         requires base { image.code.base ≡ config.mem_base }
         requires bytes { length image.code.bytes ≡ config.mem_bytes }
-        ensures { IfOk result (λ p. p ≡ record { config = config; image = image; files = named names.now }) }
+        ensures { IfOk result (λ p. p
+            ≡ record { config = config; image = image; files = named names.now }) }
     {
         let files = copy_names(alloc, names)?;
         let entry = image.entry();
-        let chip = Chip::new(alloc, &config, image)?;
-        let task = ScheduleRun::new(alloc, chip, names.output.is_some())?;
+        let machine = M::build(alloc, &config, image)?;
+        let task = Task::new(alloc, machine, names.output.is_some())?;
         Ok(Prepared {
             config,
             entry,
@@ -67,16 +82,17 @@ impl Prepared {
         })
     }
 
-    /// The files, and the run with its buffers.
-    pub fn into_parts(self) -> (FileWords, ScheduleRun)
-        ensures files { worded result.0 ≡ self.files }
-        ensures unused { IsUnused (worded result.0) result.1.run }
-        ensures stands { Stands (setup_in self) result.1.run.chip [] }
+    // The files, and the run with its buffers.
+    pub(crate) fn into_parts(self) -> (FileWords, Task<M>)
+        ensures files { names_in result.0 ≡ self.files }
+        ensures apart { AreApart (names_in result.0) }
+        ensures new { IsNewTask (is_some (names_in result.0).output) result.1 }
+        ensures stands { M.stands (design_in self) result.1.run.machine [] }
     {
         (self.files, self.task)
     }
 
-    /// The chip's configuration.
+    /// The machine's configuration.
     pub fn config(&self) -> &Config
         ensures { result.now ≡ self.now.config }
     {
@@ -84,17 +100,18 @@ impl Prepared {
     }
 }
 
-// Reads configuration and image of these files.
-fn prepare_files<H: Host>(
+/// Reads configuration and image of these files.
+pub(crate) fn prepare_files<M: Simulator, H: Host>(
     alloc: Global,
-    names: &FileNames,
+    names: &RunFiles,
     host: &mut H,
-) -> Result<Prepared, Status>
+) -> Result<Prepared<M>, Status>
     requires { AreApart (named names.now) }
     ensures ready { IfOk result (IsReadyFor (named names.now) (H.state host.old)) }
-    ensures unready { IfErr result (IsUnready (named names.now) (H.state host.old) (H.state host.new)) }
+    ensures unready { IfErr result (IsUnready (named names.now) (H.state host.old)
+        (H.state host.new)) }
     ensures told { IfErr result IsTold }
-    ensures rest { OnlyReads (H.state host.old) (H.state host.new) }
+    ensures rest { OnlyOpens (prepare_opens result) (H.state host.old) (H.state host.new) }
 {
     let config = read_config(alloc, names.config, host)?;
     let image = load_image(alloc, &config, names.image, host)?;
@@ -105,22 +122,29 @@ fn prepare_files<H: Host>(
 /// Reads configuration and image of the run that the words are, and takes all memory that it needs.
 ///
 /// Where memory runs out the answer is `OutOfMemory`; no clause says when.
-pub fn prepare<H: Host>(alloc: Global, words: &[String], host: &mut H) -> Result<Prepared, Status>
+pub fn prepare<M: Simulator, H: Host>(
+    alloc: Global,
+    words: &[String],
+    host: &mut H,
+) -> Result<Prepared<M>, Status>
     // Configuration and image are what their files say, and the files are those of the words.
-    ensures ready { IfOk result (λ p. IfSome (run_files (map string_bytes words.now)) (λ files. IsReadyFor files (H.state host.old) p)) }
+    ensures ready { IfOk result (λ p. IfSome (files_of words.now) (λ files. IsReadyFor files
+        (H.state host.old) p)) }
 
     // The words alone decide whether it is Usage, and then nothing is touched.
-    ensures usage { (result ≡ Err Status.Usage) ↔ (run_files (map string_bytes words.now) ≡ None) }
+    ensures usage { (result ≡ Err Status.Usage) ↔ (files_of words.now ≡ None) }
     ensures untouched { result ≡ Err Status.Usage → H.state host.new ≡ H.state host.old }
 
     // Any other refusal is what the bytes lead to, or a fault whose count rose, or want of memory.
-    ensures unready { IfErr result (λ e. IfSome (run_files (map string_bytes words.now)) (λ files. IsUnready files (H.state host.old) (H.state host.new) e)) }
+    ensures unready { IfErr result (λ e. IfSome (files_of words.now) (λ files. IsUnready files
+        (H.state host.old) (H.state host.new) e)) }
     ensures told { IfErr result IsTold }
 
-    // No file is changed or created.
-    ensures unmade { OnlyReads (H.state host.old) (H.state host.new) }
+    // No file is changed, no role is created, and only configuration and image are opened: the image
+    // only after the configuration was taken.
+    ensures unmade { OnlyOpens (prepare_opens result) (H.state host.old) (H.state host.new) }
 {
-    let Some(names) = names_of(words) else {
+    let Some(names) = run_files(words) else {
         return Err(Status::Usage);
     };
     prepare_files(alloc, &names, host)

@@ -24,6 +24,8 @@ pub enum Status {
     /// A source has more bytes than its limit, or the schedule more events than its limit.
     TooLarge { role: Role, limit: u64 },
     OutOfMemory,
+    /// The first bad line of a text that is assembled or checked, counted from 1.
+    Syntax { line: u64, why: u8 },
 }
 
 impl Status {
@@ -43,6 +45,7 @@ impl Status {
             Status::Schedule { .. } => 7,
             Status::TooLarge { .. } => 8,
             Status::OutOfMemory => 9,
+            Status::Syntax { .. } => 13,
         }
     }
 }

@@ -5,9 +5,13 @@ use crate::{Status, conda};
 use conda_host::MemoryHost;
 use std::alloc::{AllocError, Global};
 
+mod chip;
+mod chip_programs;
 mod examples;
 mod faults;
+mod programs;
 mod refusals;
+mod self_runs;
 
 const ENTRY: u32 = 65536;
 
@@ -30,7 +34,8 @@ const ONE_LETTER: [u32; 6] = [
 const ORDER: &str = "s 0\ns 0\ns 0\ns 0\ns 0\ns 0\n";
 
 const REPORT: &str =
-    "events 6\noutput 1\nhart 0 exit 00000000 pc 00010014\nx11 00000001\nx17 0000005d\ncore 0 idle pc 00000000\n";
+    "events 6\noutput 1\nhart 0 exit 00000000 pc 00010014\nx11 00000001\nx17 0000005d\ncore 0 idle pc 00000000\n\
+    traffic fill 0 back 0 down 0 drop 0 evict 0 corefill 0 merge 0\n";
 
 // The words of a run, but for its configuration.
 const WORDS: [&str; 9] = [

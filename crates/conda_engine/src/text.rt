@@ -42,7 +42,8 @@ fn push_pair(out: &mut Line, first: &[u8], one: u64, second: &[u8], two: u64)
     requires room { array_vec_len out.old ≤ 20 }
     requires first { length first.now ≤ 20 }
     requires second { length second.now ≤ 20 }
-    ensures { out.new.items ≡ out.old.items ++ (first.now ++ decimal one ++ second.now ++ decimal two) }
+    ensures { out.new.items ≡ out.old.items ++
+        (first.now ++ decimal one ++ second.now ++ decimal two) }
 {
     push_bytes(out, first);
     push_number(out, one);
@@ -76,7 +77,8 @@ fn config_number(fault: ConfigFault) -> u8
 
 fn push_config_fault(out: &mut Line, fault: ConfigFault)
     requires { out.old.items ≡ [] }
-    ensures { out.new.items ≡ codes "conda: config fault " ++ decimal (config_fault_number fault) ++ config_fault_held fault }
+    ensures { out.new.items ≡ codes "conda: config fault " ++ decimal (config_fault_number fault)
+        ++ config_fault_held fault }
 {
     push_bytes(out, b"conda: config fault ");
     push_number(out, u64::from(config_number(fault)));
@@ -136,7 +138,8 @@ fn held_by(fault: ImageFault) -> Option<u32>
 
 fn push_image_fault(out: &mut Line, fault: ImageFault)
     requires { out.old.items ≡ [] }
-    ensures { out.new.items ≡ codes "conda: image fault " ++ decimal (image_fault_number fault) ++ image_fault_held fault }
+    ensures { out.new.items ≡ codes "conda: image fault " ++ decimal (image_fault_number fault)
+        ++ image_fault_held fault }
 {
     push_bytes(out, b"conda: image fault ");
     push_number(out, u64::from(image_number(fault)));
@@ -175,5 +178,9 @@ pub fn status_text(s: &Status, out: &mut ArrayVec<u8, 128>)
             push_number(out, limit);
         }
         Status::OutOfMemory => push_bytes(out, b"conda: out of memory"),
+        Status::Syntax { line, why } => {
+            push_bytes(out, b"conda: ");
+            push_pair(out, b"syntax line ", line, b" fault ", u64::from(why));
+        }
     }
 }

@@ -17,11 +17,11 @@ pub record HostState : Type 0 where
   pub role : Role → RoleState
   pub faults : Role → List ℕ → ℕ
 
-abbrev pub IsOpened : HostState → Role → Bool
-IsOpened s r = (s.role r).opened
+abbrev pub is_opened : HostState → Role → Bool
+is_opened s r = (s.role r).opened
 
-abbrev pub IsCreated : HostState → Role → Bool
-IsCreated s r = (s.role r).created
+abbrev pub is_created : HostState → Role → Bool
+is_created s r = (s.role r).created
 
 -- a host tells as much as before, and no count of faults fell
 pub record IsLater (old new : HostState) : Type 0 where

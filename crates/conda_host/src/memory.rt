@@ -177,7 +177,7 @@ fn reserve(alloc: Global, names: Vec<String>, room: usize) -> Result<Vec<Output>
 
 impl Host for MemoryHost {
     ghost use Rattle.std.specs.Prelude.{◌&&◌, false, not, is_ok, OnOk, OnErr};
-    ghost use Rattle.conda_host.specs.State.{IsReading, IsWriting, IsCreating, Opens, Reads, Creates, Writes, Rose, RoseForAll, IsOpened, IsCreated};
+    ghost use Rattle.conda_host.specs.State.{IsReading, IsWriting, IsCreating, Opens, Reads, Creates, Writes, Rose, RoseForAll, is_opened, is_created};
     ghost use Rattle.conda_host.specs.MemoryHost.{memory_state, fails_next, is_input, is_output, has_room_for, read_count, write_count, Serves, TakesName, Moves};
 
     ghost state = { memory_state };
@@ -185,7 +185,7 @@ impl Host for MemoryHost {
     fn open(&mut self, role: Role, name: &str) -> Result<(), HostFailed>
         ensures ok { OnOk result (Opens (memory_state self.old)
             (memory_state self.new) role name.now) }
-        ensures err { OnErr result (IsOpened (memory_state self.new) role ≡ false) }
+        ensures err { OnErr result (is_opened (memory_state self.new) role ≡ false) }
         ensures cause { OnErr result (Rose (memory_state self.old)
             (memory_state self.new) role name.now) }
         ensures rest { IsReading (memory_state self.old) (memory_state self.new) role }
@@ -213,7 +213,7 @@ impl Host for MemoryHost {
     }
 
     fn read(&mut self, role: Role, buf: &mut [u8]) -> Result<usize, HostFailed>
-        requires { IsTrue (IsOpened (memory_state self.old) role) }
+        requires { IsTrue (is_opened (memory_state self.old) role) }
         ensures ok { IfOk result (λ n. Reads (memory_state self.old)
             (memory_state self.new) role buf.old buf.new n) }
         ensures err { OnErr result ((memory_state self.new).role role
@@ -247,7 +247,7 @@ impl Host for MemoryHost {
 
     fn create(&mut self, role: Role, name: &str) -> Result<(), HostFailed>
         ensures ok { OnOk result (Creates (memory_state self.new) role name.now) }
-        ensures err { OnErr result (IsCreated (memory_state self.new) role ≡ false) }
+        ensures err { OnErr result (is_created (memory_state self.new) role ≡ false) }
         ensures cause { OnErr result (Rose (memory_state self.old)
             (memory_state self.new) role name.now) }
         ensures rest { IsCreating (memory_state self.old) (memory_state self.new) role name.now }
@@ -277,7 +277,7 @@ impl Host for MemoryHost {
     }
 
     fn write(&mut self, role: Role, bytes: &[u8]) -> Result<usize, HostFailed>
-        requires { IsTrue (IsCreated (memory_state self.old) role) }
+        requires { IsTrue (is_created (memory_state self.old) role) }
         ensures ok { IfOk result (λ n. Writes (memory_state self.old)
             (memory_state self.new) role bytes.now n) }
         ensures err { OnErr result ((memory_state self.new).role role

@@ -10,7 +10,7 @@ use Rattle.conda_base.specs.Bytes.{bytes_of_line}
 use Rattle.conda_base.proofs.LineLemmas.{line_split, offset_below, line_bytes_in_memory}
 use Rattle.line_memory.specs.Access.{after_commit}
 use Rattle.line_memory.specs.Memory.{IsMemory}
-use Rattle.line_memory.specs.Backing.{BackingView, IsBacking, IsInRange, shape_of, view_of, merged}
+use Rattle.line_memory.specs.Backing.{HasSameNumbers, BackingView, IsBacking, IsInRange, shape_of, view_of, merged}
 use Rattle.line_memory.specs.Notes.{all_noted, commit_notes}
 use Rattle.nda_cache.specs.Tried.{Tried, IsTried, known_of}
 use Rattle.offload_calls.specs.Stores.{Inside, overlay, has, stored_addresses}
@@ -26,7 +26,7 @@ use Rattle.portion_ctl.specs.Stands.{address_in, HoldsLines, Holds, StandsFor}
 use Rattle.portion_ctl.specs.States.{IsKeptOf}
 use Rattle.portion_ctl.specs.Views.{ReadyView, EndedView}
 use Rattle.conflict_resolve.specs.Merges.{Stored, stored_in, all_merged, all_merge_notes}
-use Rattle.conflict_resolve.specs.Commits.{Change, HasSameNumbers, Commits, IsShownBy, state_kept, IsAtomic}
+use Rattle.conflict_resolve.specs.Commits.{Change, Commits, IsShownBy, state_kept, IsUnbroken}
 use Rattle.conflict_resolve.proofs.MergeFacts.{lines_in, IsStored, AreStored, IsCommitted, names-map, rooms, merges_commit}
 use Rattle.conflict_resolve.proofs.CopyFacts.{copies_are}
 
@@ -183,7 +183,7 @@ same-state m c t s f j kept shown done =
     }
 
 pub atomic : (m : Change) (c : EndedView) (s : Setup) (f : State) (j : ℕ) (fills : Fills) (n : ℕ) (kept : Kept)
-    → Committed m c kept → StandsFor s.code c.try (record { regs = (f.cores j).regs; fills = fills; acts = n }) → IsAtomic m.old s f j fills n kept m.new
+    → Committed m c kept → StandsFor s.code c.try (record { regs = (f.cores j).regs; fills = fills; acts = n }) → IsUnbroken m.old s f j fills n kept m.new
 atomic m c s f j fills n kept is stands shown fresh =
     let t : Try = try_in s f j fills n in
     let same : c.try.limits.line_bytes ≡ s.line_bytes = sym (shown.lines ∙ is.lines) in

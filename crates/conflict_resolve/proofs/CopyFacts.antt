@@ -1,18 +1,19 @@
 -- Memory's own copies after a commit.
-use Rattle.std.proofs.Common.{◌≡◌, ◌≢◌, ◌≤◌, ◌<◌, ◌+◌, ◌-◌, ◌*◌, ◌⊎◌, ◌&&◌, ◌||◌, ℕ, zero, suc, Bool, true, false, not, cond, eqb, List, [], ◌∷◌, length, refl, sym, ap, subst, ◌∙◌, arith, inl, inr, Some, None}
+use Rattle.std.proofs.Common.{◌≡◌, ◌≢◌, ◌≤◌, ◌<◌, ◌+◌, ◌-◌, ◌*◌, ◌⊎◌, ◌&&◌, ℕ, Bool, true, false, not, cond, eqb, List, [], ◌∷◌, length, refl, sym, ap, subst, ◌∙◌, inl, inr, Some, None}
 use Rattle.std.specs.Prelude.{All}
 use Rattle.std.specs.List.{filter, Contains}
-use Rattle.std.proofs.lemmas.Bool.{false≢true, true≢false, eqb-false, eq-eqb, or_cases, or_parts, or_left, or_right, and_from, cases_eq}
+use Rattle.std.proofs.lemmas.Bool.{false≢true, true≢false, eqb-false, eq-eqb, or_cases, or_parts, or_left, or_right, and_from}
 use Rattle.std.proofs.lemmas.List.Elements.{All-head, All-tail}
 use Rattle.conda_base.specs.declared.Line.{Line}
 use Rattle.conda_base.specs.declared.Mesi.TheVariants.{M}
 use Rattle.conda_base.specs.Lines.{IsLineOf}
 use Rattle.conda_base.specs.LineLists.{names, same_line}
 use Rattle.line_memory.specs.Memory.{IsMemory}
-use Rattle.line_memory.specs.Tags.{Tag, Tags, Shape, set_of, held_state, state_in, is_in_m, some_below, dirty_lines}
+use Rattle.line_memory.specs.Tags.{Tag, Tags, Shape, set_of, held_state, state_in, is_in_m, dirty_lines}
 use Rattle.line_memory.specs.Access.{after_commit}
 use Rattle.line_memory.specs.Backing.{BackingView, IsBacking, IsInRange, shape_of, dirty_in, view_of, copy_of, committed_line, merged}
 use Rattle.line_memory.specs.Copies.{has_same_owner, copy_after}
+use Rattle.line_memory.proofs.BelowLemmas.{some_found}
 use Rattle.line_memory.proofs.MemberLemmas.{cons_cases, cons_here, cons_later, none_in_nil, state_of_dirty}
 use Rattle.line_memory.proofs.MemoryLemmas.{length-with_line, bytes_of_line-with_line_other}
 use Rattle.try_runs.proofs.LineFacts.{line_eq}
@@ -118,14 +119,6 @@ left_in_m lines (t ∷ tags) l h = go (names lines t.0) refl (same_line t.0 l) r
     )
     go false off false other h later = later (sym (ap (λ y. cond y (Some t.1) (state_in l rest)) other) ∙ h)
 
-some_at : (n : ℕ) (test : ℕ → Bool) (k : ℕ) → k < n → test k ≡ true → some_below n test ≡ true
-some_at zero test k below h = absurd (omega arith)
-some_at (suc n) test k below h = go (cases_eq k n) (some_at n test k)
-  where
-    go : ((k ≡ n) ⊎ (k ≡ n → ⊥)) → (k < n → test k ≡ true → some_below n test ≡ true) → (some_below n test || test n) ≡ true
-    go (inl e) earlier = or_right _ _ (ap test (sym e) ∙ h)
-    go (inr ne) earlier = or_left _ _ (earlier (omega arith) h)
-
 -- ---- the copies
 
 pub copies_are : (b new : BackingView) (entries : List Stored) (lines : List Line) (l : Line)
@@ -146,7 +139,7 @@ copies_are b new entries lines l is named tags old backing rooms ranges range = 
         let left = left_in_m lines (b.tags owner.0 (set_of (shape_of b) l)) l (ap (λ (ts : Tags). held_state (shape_of b) ts owner.0 l) (sym tags) ∙ here) in
         let below : owner.0 < b.holders = subst (λ (s : Shape). owner.0 < s.holders) shape owner.1 in
         let same : has_same_owner (shape_of b) b.tags new.tags l ≡ true =
-        some_at b.holders (λ k. is_in_m (held_state (shape_of b) b.tags k l) && is_in_m (held_state (shape_of b) new.tags k l)) owner.0 below
+        some_found b.holders owner.0 (λ k. is_in_m (held_state (shape_of b) b.tags k l) && is_in_m (held_state (shape_of b) new.tags k l)) below
         (and_from _ _ (ap is_in_m left.1) (ap is_in_m here)) in
         ap (λ (m : BackingView). copy_of m l) is
         ∙ stays l b entries old.memory old.same rooms ranges range (ap (λ ls. names ls l) named ∙ left.0)

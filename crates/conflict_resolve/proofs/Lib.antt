@@ -4,4 +4,3 @@ pub mod CopyFacts
 pub mod MergeFacts
 pub mod MergeSteps
 pub mod RangeFacts
-pub mod WorldFacts

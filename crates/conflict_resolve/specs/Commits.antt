@@ -3,7 +3,7 @@ use Rattle.std.specs.Prelude.{ℕ, ◌≡◌, ◌++◌, true, List, length}
 use Rattle.conda_base.specs.declared.Line.{Line}
 use Rattle.conda_base.specs.LineLists.{names}
 use Rattle.line_memory.specs.Access.{after_commit}
-use Rattle.line_memory.specs.Backing.{BackingView, IsInRange, shape_of, view_of, copy_of}
+use Rattle.line_memory.specs.Backing.{BackingView, HasSameNumbers, IsInRange, shape_of, view_of, copy_of}
 use Rattle.line_memory.specs.Copies.{copy_after}
 use Rattle.line_memory.specs.Notes.{all_noted, commit_notes}
 use Rattle.traffic_trace.specs.Notes.{Trace}
@@ -30,15 +30,6 @@ change old new before after = record { old = old; new = new; before = before; af
 -- the portion of n acts from the registers that core j has
 abbrev pub portion_from : State → ℕ → Fills → ℕ → Portion
 portion_from f j fills n = record { regs = (f.cores j).regs; fills = fills; acts = n }
-
--- the numbers of a memory, which no call changes
-pub record HasSameNumbers (old new : BackingView) : Type 0 where
-  pub line_bytes : new.line_bytes ≡ old.line_bytes
-  pub base : new.base ≡ old.base
-  pub holders : new.holders ≡ old.holders
-  pub sets : new.sets ≡ old.sets
-  pub ways : new.ways ≡ old.ways
-  pub size : length new.view ≡ length old.view
 
 -- The commit of a portion that stands for this try. The view is overlaid by what the try stored;
 -- tags, copies and notes are those of a Commit of the lines that it stored to; and the core keeps
@@ -82,7 +73,7 @@ state_kept f j kept new = record {
 
 -- where the view has on each line of A the bytes of the fills, n acts of core j with nothing
 -- between do the same
-abbrev pub IsAtomic : BackingView → Setup → State → ℕ → Fills → ℕ → Kept → BackingView → Type 0
-IsAtomic b s f j fills n kept new =
+abbrev pub IsUnbroken : BackingView → Setup → State → ℕ → Fills → ℕ → Kept → BackingView → Type 0
+IsUnbroken b s f j fills n kept new =
     IsShownBy b s f j → AreFreshIn b fills (try_in s f j fills n).reads
     → core_acts s f j n ≡ state_kept f j kept new

@@ -2,4 +2,3 @@ pub mod Backs
 pub mod Commits
 pub mod InRange
 pub mod Merges
-pub mod Worlds

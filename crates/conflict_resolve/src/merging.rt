@@ -9,7 +9,7 @@ ghost use Rattle.try_runs.specs.Fills.{Fills, Portion, portion_run};
 ghost use Rattle.portion_ctl.specs.Stands.{StandsFor};
 ghost use Rattle.portion_ctl.specs.States.{IsKeptOf};
 ghost use Rattle.conflict_resolve.specs.Merges.{stored_in, all_merged, all_merge_notes};
-ghost use Rattle.conflict_resolve.specs.Commits.{change, portion_from, Commits, IsAtomic};
+ghost use Rattle.conflict_resolve.specs.Commits.{change, portion_from, Commits, IsUnbroken};
 
 use line_memory::Backing;
 use portion_ctl::{Clear, Kept};
@@ -53,7 +53,7 @@ pub fn commit<B: Backing>(c: Clear, mem: &mut B, log: &mut Traffic) -> Kept
     // Where its fills are those of a state that memory shows, that is n acts with nothing between.
     ensures serial { (s : Setup) (f : State) (j : ℕ) (fills : Fills) (n : ℕ)
         → StandsFor s.code c.try (portion_from f j fills n)
-        → IsAtomic (B.shown mem.old) s f j fills n result (B.shown mem.new) }
+        → IsUnbroken (B.shown mem.old) s f j fills n result (B.shown mem.new) }
 {
     merge_all(&c, mem, log);
     c.keep()

@@ -19,6 +19,7 @@ ghost use Rattle.std.specs.Prelude.{
   Some,
   None,
 };
+ghost use Rattle.std.specs.Prelude.{option_copied};
 ghost use Rattle.std.specs.Option.{option_map};
 ghost use Rattle.conda_base.specs.Bytes.{handed_out, value_at, stored};
 ghost use Rattle.conda_base.specs.Lines.{IsLineSize, IsAccessSize, line_offset};
@@ -276,43 +277,48 @@ impl CpuCache {
         copy_line(&mut self.slots[slot], from, self.line_bytes as usize);
     }
 
-    /// Keeps a held line shared, at its place. Hands out its bytes where it was modified.
-    pub fn downgrade(&mut self, l: Line) -> Option<[u8; 128]>
+    /// The bytes of a line, with zeros after them, where it is held modified.
+    pub fn modified_bytes(&self, l: Line) -> Option<&[u8; 128]>
+        ensures bytes { option_copied result ≡ written_back (content_of self.now l) }
+        ensures kept { IsCache self.now }
+    {
+        match self.lines.find(l) {
+            Some(kept) => {
+                let slot = slot_at(&self.lines, l, kept.place);
+                bytes_to_write(&self.slots, slot, kept.value)
+            }
+            None => None,
+        }
+    }
+
+    /// Keeps a held line shared, at its place.
+    pub fn downgrade(&mut self, l: Line)
         requires { IsHeld self.old l }
-        ensures bytes { result ≡ written_back (content_of self.old l) }
         ensures shared { self.new ≡ with_set self.old l (restated self.old l S) }
         ensures kept { IsCache self.new }
     {
         let kept = held_at(&self.lines, l);
-        let slot = slot_at(&self.lines, l, kept.place);
         self.lines.replace(l, kept.place, Mesi::S);
-        bytes_to_write(&self.slots, slot, kept.value)
     }
 
-    /// Drops a held line. Hands out its bytes where it was modified.
-    pub fn invalidate(&mut self, l: Line) -> Option<[u8; 128]>
+    /// Drops a held line.
+    pub fn invalidate(&mut self, l: Line)
         requires { IsHeld self.old l }
-        ensures bytes { result ≡ written_back (content_of self.old l) }
         ensures dropped { self.new ≡ with_set self.old l (without l (set_list self.old l)) }
         ensures kept { IsCache self.new }
     {
         let kept = held_at(&self.lines, l);
-        let slot = slot_at(&self.lines, l, kept.place);
         self.lines.remove(l, kept.place);
-        bytes_to_write(&self.slots, slot, kept.value)
     }
 
-    /// Keeps a modified line exclusive, at its place, and hands out its bytes.
-    pub fn clean(&mut self, l: Line) -> [u8; 128]
+    /// Keeps a modified line exclusive, at its place.
+    pub fn clean(&mut self, l: Line)
         requires { state_of self.old l ≡ Some M }
-        ensures bytes { result ≡ handed_out (bytes_of self.old l) }
         ensures exclusive { self.new ≡ with_set self.old l (restated self.old l E) }
         ensures kept { IsCache self.new }
     {
         let kept = held_at(&self.lines, l);
-        let slot = slot_at(&self.lines, l, kept.place);
         self.lines.replace(l, kept.place, Mesi::E);
-        self.slots[slot]
     }
 }
 
@@ -325,12 +331,12 @@ fn copy_line(slot: &mut [u8; 128], from: &[u8; 128], size: usize)
 }
 
 // The bytes of a slot, where its line is modified.
-fn bytes_to_write(slots: &[[u8; 128]], slot: usize, state: Mesi) -> Option<[u8; 128]>
+fn bytes_to_write(slots: &[[u8; 128]], slot: usize, state: Mesi) -> Option<&[u8; 128]>
     requires { slot < length slots.now }
-    ensures { result ≡ bytes_in state (slice_index_or slots.now slot []) }
+    ensures { option_copied result ≡ bytes_in state (slice_index_or slots.now slot []) }
 {
     match state {
-        Mesi::M => Some(slots[slot]),
+        Mesi::M => Some(&slots[slot]),
         Mesi::E | Mesi::S => None,
     }
 }
@@ -382,12 +388,18 @@ mod tests {
         fill_absent(&rt, &mut cache, 0, 7);
         assert!(rt; cache.state(Line(0)).is_some());
         cache.store(0, 1, 1);
-        assert_eq!(rt; cache.clean(Line(0))[0], 1);
-        assert!(rt; cache.downgrade(Line(0)).is_none());
+        assert_eq!(rt;
+            cache.modified_bytes(Line(0)).map(|bytes| bytes[0]),
+            Some(1)
+        );
+        cache.clean(Line(0));
+        assert!(rt; cache.modified_bytes(Line(0)).is_none());
+        cache.downgrade(Line(0));
         let mut out = [1; 128];
         cache.bytes(Line(0), &mut out);
         assert_eq!(rt; out[63], 7);
-        assert!(rt; cache.invalidate(Line(0)).is_none());
+        cache.invalidate(Line(0));
+        assert!(rt; cache.state(Line(0)).is_none());
         Ok(())
     }
 

@@ -62,7 +62,8 @@ pub fn load(alloc: Global, bytes: &[u8], base: u32, size: u32) -> Result<Image, 
     ensures size { IfOk result (λ image. length image.code.bytes ≡ size) }
 
     // A fault is that of the first rule that is broken, and want of memory comes where none is.
-    ensures refused { IfErr result (λ fault. fault ≢ OutOfMemory → refusal bytes.now base size ≡ Some fault) }
+    ensures refused { IfErr result (λ fault. fault ≢ OutOfMemory → refusal bytes.now base size
+        ≡ Some fault) }
     ensures out_of_memory { result ≡ Err OutOfMemory → refusal bytes.now base size ≡ None }
 {
     let accepted = judge(bytes, base, size)?;

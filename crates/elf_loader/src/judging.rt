@@ -218,7 +218,8 @@ fn judge_entry(entry: u32, segments: &[Segment]) -> Result<(), ImageFault>
 fn read_segments(file: &[u8], first: usize, count: u16) -> ArrayVec<Segment, 64>
     requires few { count ≤ 64 }
     requires within { 0 < count → first + 32 * count ≤ length file.now }
-    ensures { result.items ≡ map (λ k. segment_at file.now (first + 32 * k)) (range_with_len 0 count) }
+    ensures { result.items ≡ map (λ k. segment_at file.now (first + 32 * k))
+        (range_with_len 0 count) }
 {
     let mut segments = ArrayVec::new();
     for number in 0..usize::from(count) {

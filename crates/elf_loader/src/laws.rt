@@ -29,8 +29,10 @@ pub fn plain_image_is_loaded(at: u32, words: &[u32], base: u32, size: u32)
     requires room { base + size ≤ 2 ^ 32 }
     ensures accepted { refusal (plain at words.now) base size ≡ None }
     ensures entry { (header_of (plain at words.now)).e_entry ≡ at }
-    ensures ranges { fetch_ranges (segments_of (plain at words.now)) ≡ (at, 4 * length words.now) ∷ [] }
-    ensures bytes { loaded (plain at words.now) base size ≡ memory_with base size at (words_bytes words.now) }
+    ensures ranges { fetch_ranges (segments_of (plain at words.now))
+        ≡ (at, 4 * length words.now) ∷ [] }
+    ensures bytes { loaded (plain at words.now) base size
+        ≡ memory_with base size at (words_bytes words.now) }
     ensures words { (i : ℕ) → i < length words.now
         → word_at (code_of (plain at words.now) base size) (at + 4 * i) ≡ Some (slice_index words.now i) }
 {}
@@ -39,8 +41,10 @@ pub fn plain_image_is_loaded(at: u32, words: &[u32], base: u32, size: u32)
 /// order, and zeros elsewhere.
 pub fn segments_are_in_memory(file: &[u8], base: u32, size: u32)
     requires { refusal file.now base size ≡ None }
-    ensures inside { All (IsInMemory file.now base (loaded file.now base size)) (segments_of file.now) }
-    ensures elsewhere { IsZeroElsewhere base size (loaded file.now base size) (segments_of file.now) }
+    ensures inside { All (IsInMemory file.now base (loaded file.now base size))
+        (segments_of file.now) }
+    ensures elsewhere { IsZeroElsewhere base size (loaded file.now base size)
+        (segments_of file.now) }
 {}
 
 /// A law: of a file that isn't refused, the instruction at the entry can be fetched.

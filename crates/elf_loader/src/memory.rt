@@ -34,7 +34,8 @@ pub fn fill(
     size: u32,
 ) -> Result<Vec<u8>, AllocError>
     requires { IsLoadable (length file.now) base size segments.now }
-    ensures { IfOk result (λ memory. memory.items ≡ map (byte_at file.now segments.now) (range_with_len base size)) }
+    ensures { IfOk result (λ memory. memory.items
+        ≡ map (byte_at file.now segments.now) (range_with_len base size)) }
 {
     let mut memory = vec![in alloc; 0u8; size as usize]?;
     for segment in segments {

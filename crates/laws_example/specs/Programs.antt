@@ -2,6 +2,7 @@
 -- behind them.
 use Rattle.std.specs.Prelude.{ℕ, ◌/◌, ◌%◌, ◌*◌, ◌-◌, List, [], ◌∷◌, ◌++◌, length, replicate}
 use Rattle.chip_config.specs.declared.config.Config.{Config}
+use Rattle.chip_config.specs.Settings.{settings}
 use Rattle.chip_laws.specs.Design.{Design}
 
 -- the bytes of words, the low one first
@@ -13,7 +14,7 @@ bytes_of (word ∷ words) =
 -- a program is entered at its first word
 abbrev pub design_of : Config → List ℕ → Design
 design_of config words = record {
-  config = config;
+  config = settings config;
   image = record {
     entry = 128;
     code = record {

@@ -8,11 +8,10 @@ use Rattle.std.proofs.lemmas.Nat.{mod_below}
 use Rattle.conda_base.specs.declared.Line.{Line}
 use Rattle.conda_base.specs.declared.Mesi.{Mesi}
 use Rattle.conda_base.specs.declared.Mesi.TheVariants.{M, E, S}
-use Rattle.traffic_trace.specs.declared.note.Kind.TheVariants.{Back}
 use Rattle.line_memory.specs.Tags.{Tag, is_modified, modified, state_in, held_state, each_below}
 use Rattle.line_memory.specs.Backing.{BackingView, IsBacking, IsDirty, shape_of}
 use Rattle.line_memory.proofs.WalkLemmas.{each_empty}
-use Rattle.line_memory.specs.Notes.{back_notes, note_of}
+use Rattle.line_memory.specs.Notes.{back_notes}
 use Rattle.line_memory.specs.Laws.{IsWrittenBackBy}
 
 same_line : (a b : Line) → a.0 ≡ b.0 → a ≡ b

@@ -36,6 +36,15 @@ copy_of b l = bytes_of_line b.base b.line_bytes b.copies l.0
 abbrev pub shape_of : BackingView → Shape
 shape_of b = record { holders = b.holders; sets = b.sets; ways = b.ways }
 
+-- the numbers of a memory, which no call changes
+pub record HasSameNumbers (old new : BackingView) : Type 0 where
+  pub line_bytes : new.line_bytes ≡ old.line_bytes
+  pub base : new.base ≡ old.base
+  pub holders : new.holders ≡ old.holders
+  pub sets : new.sets ≡ old.sets
+  pub ways : new.ways ≡ old.ways
+  pub size : length new.view ≡ length old.view
+
 -- the lines that some holder has in M, in walk order
 abbrev pub dirty_in : BackingView → List Line
 dirty_in b = dirty_lines (shape_of b) b.tags

@@ -92,7 +92,9 @@ impl NdaCache {
     pub fn store_unless(&mut self, addr: u32, size: u8, value: u32, refused: bool) -> Stored
         requires size { IsAccessSize size }
         requires aligned { addr % size ≡ 0 }
-        ensures stores { StoresUnless self.old refused (line_at self.old addr) (line_offset addr self.old.line_bytes) size value result self.new }
+        ensures stores { StoresUnless self.old refused (line_at self.old addr)
+            (line_offset addr self.old.line_bytes) size value result self.new }
+        ensures tried { IsTried self.old }
         ensures kept { IsTried self.new }
     {
         let line_bytes = self.line_bytes;
@@ -132,7 +134,8 @@ impl NdaCache {
     pub fn look(&self, addr: u32, size: u8) -> Look
         requires size { IsAccessSize size }
         requires aligned { addr % size ≡ 0 }
-        ensures looks { Looks self.now (line_at self.now addr) (line_offset addr self.now.line_bytes) size result }
+        ensures looks { Looks self.now (line_at self.now addr)
+            (line_offset addr self.now.line_bytes) size result }
         ensures kept { IsTried self.now }
     {
         let line_bytes = self.line_bytes;
@@ -217,7 +220,8 @@ impl NdaCache {
     pub fn covered(&self, addr: u32, size: u8) -> bool
         requires size { IsAccessSize size }
         requires aligned { addr % size ≡ 0 }
-        ensures { IsTrue result ↔ Covers (known_of self.now (line_at self.now addr)).mask (line_offset addr self.now.line_bytes) size }
+        ensures { IsTrue result ↔ Covers (known_of self.now (line_at self.now addr)).mask
+            (line_offset addr self.now.line_bytes) size }
     {
         let line_bytes = self.line_bytes;
         self.covered_at(line_of(addr, line_bytes), offset_of(addr, line_bytes), size)
@@ -249,14 +253,14 @@ impl NdaCache {
     pub fn fill(&mut self, l: Line, from: &[u8; 128])
         requires room { HasRoom self.old l }
         requires unfilled { (known_of self.old l).filled ≡ false }
-        ensures filled { let line = filled_from self.old.line_bytes (known_of self.old l) from.now in
+        ensures filled { let line = filled_from self.old.line_bytes (known_of self.old l) from.now
+            in
             self.new ≡ record self.old { lines = put_line l line self.old.lines } }
         ensures kept { IsTried self.new }
     {
         let found = self.find(l);
         let place = self.place_for(l, found);
-        let copy = first_bytes(from, self.line_bytes as usize);
-        fill_line(&mut self.lines[place], &copy);
+        fill_line(&mut self.lines[place], &from[..self.line_bytes as usize]);
     }
 
     /// The little-endian number of 1, 2 or 4 bytes at an aligned address, whose bytes were filled or stored.
@@ -265,7 +269,8 @@ impl NdaCache {
         requires aligned { addr % size ≡ 0 }
         requires known { ((known_of self.now (line_at self.now addr)).filled ≡ true)
             ⊎ Covers (known_of self.now (line_at self.now addr)).mask (line_offset addr self.now.line_bytes) size }
-        ensures { result ≡ value_at (known_of self.now (line_at self.now addr)).bytes (line_offset addr self.now.line_bytes) size }
+        ensures { result ≡ value_at (known_of self.now (line_at self.now addr)).bytes
+            (line_offset addr self.now.line_bytes) size }
     {
         let line_bytes = self.line_bytes;
         self.read_at(line_of(addr, line_bytes), offset_of(addr, line_bytes), size)
@@ -275,7 +280,8 @@ impl NdaCache {
     fn read_at(&self, l: Line, offset: usize, size: u8) -> u32
         requires size { IsAccessSize size }
         requires within { offset + size ≤ self.now.line_bytes }
-        requires known { ((known_of self.now l).filled ≡ true) ⊎ Covers (known_of self.now l).mask offset size }
+        requires known { ((known_of self.now l).filled ≡ true)
+            ⊎ Covers (known_of self.now l).mask offset size }
         ensures { result ≡ value_at (known_of self.now l).bytes offset size }
     {
         let place = self.index.peek(l).unwrap();
@@ -287,7 +293,8 @@ impl NdaCache {
         requires size { IsAccessSize size }
         requires aligned { addr % size ≡ 0 }
         requires room { HasRoom self.old (line_at self.old addr) }
-        ensures writes { Writes self.old self.new (line_at self.old addr) (line_offset addr self.old.line_bytes) size value }
+        ensures writes { Writes self.old self.new (line_at self.old addr)
+            (line_offset addr self.old.line_bytes) size value }
         ensures kept { IsTried self.new }
     {
         let line_bytes = self.line_bytes;
@@ -316,7 +323,8 @@ impl NdaCache {
     fn place_for(&mut self, l: Line, found: Option<usize>) -> usize
         requires room { HasRoom self.old l }
         requires found { IsFound self.old l found }
-        ensures lines { self.new ≡ record self.old { lines = put_line l (known_of self.old l) self.old.lines } }
+        ensures lines { self.new ≡ record self.old
+            { lines = put_line l (known_of self.old l) self.old.lines } }
         ensures place { slice_get self.new.lines result ≡ Some (l, known_of self.old l) }
         ensures within { result < length self.new.lines }
     {
@@ -333,7 +341,8 @@ impl NdaCache {
 
     /// A stored line with its bytes and marks, by the order of first stores.
     pub fn written(&self, place: usize) -> Option<(Line, Masked)>
-        ensures line { result ≡ option_map (λ l. (l, known_of self.now l)) (slice_get self.now.stored place) }
+        ensures line { result ≡ option_map (λ l. (l, known_of self.now l))
+            (slice_get self.now.stored place) }
         ensures kept { IsTried self.now }
     {
         let l = nth_line(&self.stored, place)?;
@@ -368,20 +377,18 @@ fn nth_line(lines: &[Line], place: usize) -> Option<Line>
     lines.get(place).copied()
 }
 
-// The first `size` bytes of a copy of a line, and zeros after them.
-fn first_bytes(from: &[u8; 128], size: usize) -> [u8; 128]
-    requires { size ≤ 128 }
-    ensures { result ≡ take size from.now ++ replicate (128 - size) 0 }
-{
-    let mut copy = *from;
-    copy[size..].fill(0);
-    copy
-}
-
 // Fills a line from a copy of it.
-fn fill_line(entry: &mut (Line, Masked), copy: &[u8; 128])
-    requires { entry.old.1.filled ≡ false }
-    ensures { entry.new ≡ (entry.old.0, record { bytes = mixed entry.old.1.mask entry.old.1.bytes copy.now; mask = entry.old.1.mask; filled = true }) }
+fn fill_line(entry: &mut (Line, Masked), copy: &[u8])
+    requires unfilled { entry.old.1.filled ≡ false }
+    requires room { length copy.now ≤ 128 }
+    ensures { entry.new ≡ (
+      entry.old.0,
+      record {
+        bytes = mixed entry.old.1.mask entry.old.1.bytes copy.now;
+        mask = entry.old.1.mask;
+        filled = true;
+      },
+    ) }
 {
     entry.1.fill(copy);
 }

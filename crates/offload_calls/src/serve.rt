@@ -155,7 +155,8 @@ fn poll(r: &mut Regs, cores: &[CoreStatus])
 
 // Core x10, where there is one, becomes idle.
 fn rest(cores: &mut [CoreStatus], core: u32)
-    ensures { cores.new ≡ (if is_some (slice_get cores.old core) then slice_set cores.old core CoreStatus.Idle else cores.old) }
+    ensures { cores.new ≡ (if is_some (slice_get cores.old core)
+        then slice_set cores.old core CoreStatus.Idle else cores.old) }
 {
     if status_of(cores, core).is_some() {
         cores[core as usize] = CoreStatus::Idle;

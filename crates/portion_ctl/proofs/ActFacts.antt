@@ -18,7 +18,7 @@ use Rattle.line_memory.specs.Notes.{all_noted}
 use Rattle.traffic_trace.specs.Notes.{Trace}
 use Rattle.try_runs.specs.declared.limits.Limits.{Limits}
 use Rattle.portion_ctl.specs.declared.body.Body.{Body}
-use Rattle.try_runs.specs.Tries.{Try, acted_by, effect_by, seen, stored_lines, try_act, with_effect, writes}
+use Rattle.try_runs.specs.Tries.{Try, acted_by, effect_by, seen, stored_lines, try_act, with_effect}
 use Rattle.try_runs.specs.Fills.{Fills, byte_of, corefill_notes, filled_by, fills_with, next_fill}
 use Rattle.try_runs.specs.Ends.{end_of, is_done, is_out_full, is_trapped}
 use Rattle.bloom_sig.specs.Images.{IsSignatureOf}

@@ -21,7 +21,7 @@ use Rattle.nda_cache.specs.declared.cache.Look.TheVariants.{Known, Missing, Full
 use Rattle.portion_ctl.specs.declared.body.Body.{Body}
 use Rattle.try_runs.specs.declared.limits.Limits.{Limits}
 use Rattle.conda_base.specs.LineLists.{line_at}
-use Rattle.try_runs.specs.Tries.{Try, begun, stored_lines, with_line, writes}
+use Rattle.try_runs.specs.Tries.{Try, stored_lines, with_line, writes}
 use Rattle.try_runs.specs.Fills.{Fills, fills_with}
 use Rattle.try_runs.specs.Ends.{is_sign_full}
 use Rattle.bloom_sig.specs.Images.{IsSignatureOf}

@@ -1,6 +1,6 @@
 -- What an open portion stands for, along its acts.
 use Rattle.conda_base.specs.declared.Line.{Line}
-use Rattle.std.proofs.Common.{◌≡◌, ◌≤◌, ℕ, suc, arith, length, Bool, eqb, [], ◌∷◌, ◌++◌, Some, None, refl, sym, ap, subst, ◌∙◌}
+use Rattle.std.proofs.Common.{◌≡◌, ◌≤◌, ℕ, suc, arith, Bool, eqb, [], ◌∷◌, ◌++◌, Some, None, refl, sym, ap, subst, ◌∙◌}
 use Rattle.std.proofs.lemmas.Bool.{false≢true}
 use Rattle.std.proofs.lemmas.Nat.Bits.{bit_at-zero}
 use Rattle.nda_cache.specs.Tried.{empty as no_cache}
@@ -16,7 +16,7 @@ use Rattle.line_memory.specs.Notes.{all_noted}
 use Rattle.traffic_trace.specs.Notes.{Trace}
 use Rattle.try_runs.specs.declared.limits.Limits.{Limits}
 use Rattle.portion_ctl.specs.declared.body.Body.{Body}
-use Rattle.try_runs.specs.Tries.{Try, outside_line, try_act, try_over, writes}
+use Rattle.try_runs.specs.Tries.{Try, outside_line, try_act, try_over}
 use Rattle.try_runs.specs.Fills.{Fills, Portion, byte_of, corefill_notes, fills_with, next_fill, portion_run, try_run}
 use Rattle.try_runs.specs.Ends.{end_of}
 use Rattle.try_runs.specs.Limits.{IsLimits}

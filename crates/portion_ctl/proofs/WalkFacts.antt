@@ -1,5 +1,5 @@
 -- Walks that flush, and signatures of the lines that a walk meets.
-use Rattle.std.proofs.Common.{◌≡◌, ◌≢◌, ◌≤◌, ◌<◌, ℕ, suc, arith, length, get_or, ◌+◌, ◌%◌, Bool, true, false, cond, eqb, List, [], ◌∷◌, ◌++◌, refl, sym, ap, subst, ◌∙◌, append_assoc, Option, Some}
+use Rattle.std.proofs.Common.{◌≡◌, ◌≢◌, ◌<◌, ℕ, suc, arith, length, get_or, ◌+◌, Bool, true, false, cond, eqb, List, [], ◌∷◌, ◌++◌, refl, sym, ap, subst, ◌∙◌, append_assoc, Option, Some}
 use Rattle.std.specs.List.{AllPairs}
 use Rattle.std.proofs.lemmas.Bool.{eqb-true, ne_eqb}
 use Rattle.std.proofs.lemmas.List.{append-nil}
@@ -9,7 +9,7 @@ use Rattle.conda_base.specs.declared.Mesi.{Mesi}
 use Rattle.line_memory.specs.Access.{after_flush}
 use Rattle.line_memory.specs.Backing.{BackingView, IsBacking, IsFirstDirty, dirty_from, flushed, shape_of}
 use Rattle.line_memory.specs.Notes.{all_noted, back_notes, flush_notes, flushes_notes}
-use Rattle.line_memory.specs.Tags.{Tag, Tags, Shape, state_in, set_of, held_state, cleaned_at, cleaned_state, cleaned_line, each_below}
+use Rattle.line_memory.specs.Tags.{Tag, Tags, Shape, state_in, set_of, cleaned_state, cleaned_line}
 use Rattle.line_memory.proofs.WalkLemmas.{dirty_after_flush, each_same}
 use Rattle.traffic_trace.specs.declared.note.Note.{Note}
 use Rattle.traffic_trace.specs.Notes.{Trace, noted}

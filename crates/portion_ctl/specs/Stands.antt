@@ -9,12 +9,11 @@ use Rattle.write_masks.specs.declared.Masked.{Masked}
 use Rattle.set_assoc.specs.Entries.{lookup}
 use Rattle.nda_cache.specs.Tried.{Tried, known_of, set_count}
 use Rattle.bloom_sig.specs.Images.{IsSignatureOf}
-use Rattle.try_runs.specs.declared.limits.Limits.{Limits}
 use Rattle.try_runs.specs.Ends.{cached, in_set}
 use Rattle.try_runs.specs.Fills.{Fills, Portion, portion_run}
 use Rattle.try_runs.specs.Limits.{IsLimits}
 use Rattle.try_runs.specs.Tries.{Try, writes, is_stored, stored_lines}
-use Rattle.portion_ctl.specs.Views.{ReadyView, OpenView, FlushingView}
+use Rattle.portion_ctl.specs.Views.{OpenView, FlushingView}
 
 -- ---- the lines of a try
 

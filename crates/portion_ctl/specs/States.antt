@@ -1,5 +1,5 @@
 -- What the calls of a portion do, state by state.
-use Rattle.std.specs.Prelude.{ℕ, suc, ◌≡◌, ◌+◌, ◌-◌, ◌==◌, ◌++◌, Bool, List, [], ◌∷◌, length, find, Option, Some, None, if◌then◌else◌}
+use Rattle.std.specs.Prelude.{ℕ, suc, ◌≡◌, ◌-◌, ◌==◌, ◌++◌, Bool, List, [], ◌∷◌, length, find, Option, Some, None, if◌then◌else◌}
 use Rattle.conda_base.specs.declared.Line.{Line}
 use Rattle.rv32_hart.specs.Code.{CodeView}
 use Rattle.offload_calls.specs.declared.status.CoreStatus.TheVariants.{Run}
@@ -19,7 +19,7 @@ use Rattle.portion_ctl.specs.declared.portion.Undone.{Undone}
 use Rattle.portion_ctl.specs.declared.portion.Verdict.{Verdict}
 use Rattle.portion_ctl.specs.declared.portion.Verdict.TheVariants as Verdict_is
 use Rattle.try_runs.specs.Ends.{end_of}
-use Rattle.try_runs.specs.Fills.{Fills, Portion, portion_run, next_fill, fills_with, corefill_notes}
+use Rattle.try_runs.specs.Fills.{Portion, portion_run, next_fill, fills_with, corefill_notes}
 use Rattle.portion_ctl.specs.Stands.{IsOpen, StandsFor, StandsAlike}
 use Rattle.portion_ctl.specs.Views.{ReadyView, OpenView, EndedView, FlushingView, rests_with}
 use Rattle.portion_ctl.specs.Walks.{all_flushed, all_inserted, foreign_lines, flushed_lines}

@@ -15,6 +15,13 @@ use line_memory::Backing;
 use nda_cache::{Look, NdaCache};
 use traffic_trace::{Kind, Note, Traffic};
 
+// Whether a signature has as many lines as it may have, and would get one more with this line.
+pub fn is_at_limit(lines: &Signature, limit: u32, l: Line) -> bool
+    ensures { result ≡ is_full_for lines.now l limit }
+{
+    lines.fill() == limit && lines.is_new(l)
+}
+
 // The cause that stands against a load.
 pub fn load_end(look: Look, reads: &Signature, limit: u32, l: Line) -> Option<u8>
     ensures { result ≡ end_of_load look (is_full_for reads.now l limit) }
@@ -22,7 +29,7 @@ pub fn load_end(look: Look, reads: &Signature, limit: u32, l: Line) -> Option<u8
     match look {
         Look::Known(_) => None,
         Look::Missing => {
-            if reads.is_new(l) && reads.fill() == limit {
+            if is_at_limit(reads, limit, l) {
                 Some(5)
             } else {
                 None
@@ -91,7 +98,7 @@ pub fn take<B: Backing>(
     }
 }
 
-// Stores a number into a line that there is room for.
+// Stores a number into a line that there is room for, with one search.
 pub fn put(cache: &mut NdaCache, l: Line, addr: u32, size: u8, value: u32)
     requires size { IsAccessSize size }
     requires aligned { addr % size ≡ 0 }
@@ -99,6 +106,5 @@ pub fn put(cache: &mut NdaCache, l: Line, addr: u32, size: u8, value: u32)
     requires room { HasRoom cache.old l }
     ensures { Puts cache.old cache.new addr size value }
 {
-    let _room = cache.room(l);
-    cache.write(addr, size, value);
+    let _done = cache.store_unless(addr, size, value, false);
 }

@@ -5,11 +5,11 @@ ghost use Rattle.rv32_hart.specs.declared.act.Access.TheVariants as Access_is;
 ghost use Rattle.rv32_hart.specs.Act.{is_call_access};
 ghost use Rattle.portion_ctl.specs.Bodies.{AccessIn, ChangesLines, ExchangesAll, HasParts, IsAccessIn, StoresAll};
 
-use crate::accesses::{fetch, load_end, put, take};
+use crate::accesses::{fetch, is_at_limit, load_end, put, take};
 use crate::body::Body;
 use conda_base::line_of;
 use line_memory::Backing;
-use nda_cache::Look;
+use nda_cache::{Look, Stored};
 use rv32_decode::AmoOp;
 use rv32_hart::{Access, amo_result};
 use traffic_trace::Traffic;
@@ -53,15 +53,15 @@ pub fn store(b: &mut Body, addr: u32, size: u8, value: u32) -> Option<u8>
     ensures parts { HasParts b.new }
 {
     let l = line_of(addr, b.limits.line_bytes);
-    if !b.cache.room(l) {
-        return Some(4);
+    let refused = is_at_limit(&b.write_set, b.limits.write_limit, l);
+    match b.cache.store_unless(addr, size, value, refused) {
+        Stored::Full => Some(4),
+        Stored::Refused => Some(6),
+        Stored::Done => {
+            b.write_set.insert(l);
+            None
+        }
     }
-    let is_taken = b.write_set.insert_up_to(l, b.limits.write_limit);
-    if !is_taken {
-        return Some(6);
-    }
-    put(&mut b.cache, l, addr, size, value);
-    None
 }
 
 // Makes an atomic, which is a load and then a store, or gives the cause that stands against it.

@@ -171,6 +171,7 @@ impl Ready {
     ghost use Rattle.line_memory.specs.Backing.{IsBacking, shape_of};
     ghost use Rattle.line_memory.specs.Notes.{all_noted, flushes_notes};
     ghost use Rattle.try_runs.specs.Fills.{Fills};
+    ghost use Rattle.chip_config.specs.Settings.{settings};
     ghost use Rattle.try_runs.specs.Limits.{IsLimits, limits_of};
     ghost use Rattle.portion_ctl.specs.Stands.{IsOpen, StandsFor};
     ghost use Rattle.portion_ctl.specs.States.{Opens, opened_from};
@@ -179,8 +180,8 @@ impl Ready {
     /// A core with all registers and pc 0. All memory for its tries is taken here.
     pub fn new(alloc: Global, core: u8, config: &Config) -> Result<Ready, AllocError>
         ensures value { IfOk result (λ s. s
-            ≡ record { core = core; limits = limits_of config.now; regs = start_regs 0 }) }
-        ensures limits { IsLimits (limits_of config.now) }
+            ≡ record { core = core; limits = limits_of (settings config.now); regs = start_regs 0 }) }
+        ensures limits { IsLimits (limits_of (settings config.now)) }
     {
         let limits = Limits::of(config);
         let cache = NdaCache::new(alloc, limits.line_bytes, limits.core_sets, limits.core_ways)?;

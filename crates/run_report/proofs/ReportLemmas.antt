@@ -1,8 +1,15 @@
 -- Pieces of the report, one after another.
-use Rattle.std.proofs.Common.{◌≡◌, ℕ, ◌+◌, ◌-◌, ◌*◌, ◌/◌, ◌<◌, ◌≤◌, ◌^◌, List, [], ◌++◌, length, take, replicate, IsTrue, refl, sym, ◌∙◌, ap, subst, arith, append_assoc, add-one, suc, zero, true, false, nat_eq, Bool}
-use Rattle.std.specs.Prelude.{Result, Ok, Err, OnOk, OnErr}
+use Rattle.std.proofs.Common.{◌≡◌, ℕ, ◌+◌, ◌-◌, ◌*◌, ◌/◌, ◌<◌, ◌≤◌, ◌^◌, List, [], ◌++◌, length, take, replicate, IsTrue, refl, sym, ◌∙◌, ap, subst, arith, append_assoc, add-one, suc, zero, true, false, nat_eq, Bool, ◌∷◌, ⊎_elim, get_or}
+use Rattle.std.specs.Prelude.{Result, Ok, Err, OnOk, OnErr, Option, Some, None}
+use Rattle.std.specs.List.{flat_map, slice_get, All}
+use Rattle.std.proofs.Math.Seq.{take-suc}
 use Rattle.std.proofs.lemmas.List.{append-nil}
-use Rattle.conda_host.specs.State.{HostState, IsCreated}
+use Rattle.std.proofs.lemmas.Grind.{flat_map-append}
+use Rattle.std.proofs.lemmas.Option.{slice_get_cases, slice_get_within, get_or_from_slice_get}
+use Rattle.conda_base.specs.declared.Line.{Line}
+use Rattle.conda_base.specs.declared.Mesi.{Mesi}
+use Rattle.traffic_trace.specs.declared.note.Note.{Note}
+use Rattle.conda_host.specs.State.{HostState, is_created}
 use Rattle.conda_host.specs.declared.outside.Role.TheVariants.{Report}
 use Rattle.conda_host.proofs.Steps.{reading_refl, writing_trans, writing_of_reading, whole_nothing, whole_then_whole, whole_then_part, part_longer, rose_for_all_after}
 use Rattle.rv32_hart.specs.declared.regs.Regs.{Regs}
@@ -14,11 +21,11 @@ use Rattle.std.proofs.lemmas.Grind.{common_steps}
 use Rattle.conda_base.specs.Lines.{IsLineOf}
 use Rattle.conda_base.proofs.LineLemmas.{line_bytes_in_memory, line_size_cases}
 use Rattle.conda_base.specs.Bytes.{handed_out}
-use Rattle.run_report.specs.View.{View, IsShown, line_of}
-use Rattle.run_report.specs.Texts.{changed_line_text, texts_below, register_text, registers_text, hart_line_text, core_line_text, hart_text, core_text, harts_text, cores_text, changed_text, changes_text}
+use Rattle.run_report.specs.View.{View, IsShown, IsAddressed, line_of}
+use Rattle.run_report.specs.Texts.{changed_line_text, texts_below, register_text, registers_text, hart_line_text, core_line_text, hart_text, core_text, harts_text, cores_text, changed_text, changes_text, text_if_some, tag_text, slot_text, set_text, cache_text, caches_text, note_text, note_at_text, notes_text}
 use Rattle.run_report.specs.Writes.{Wrote, WrotePart}
 
-pub wrote_nothing : (a : HostState) → IsTrue (IsCreated a Report) → Wrote a a []
+pub wrote_nothing : (a : HostState) → IsTrue (is_created a Report) → Wrote a a []
 wrote_nothing a created = record { whole = whole_nothing a Report; rest = writing_of_reading created refl (reading_refl a Report) }
 
 pub wrote_then : {a b c : HostState} {s t : List ℕ} → Wrote a b s → Wrote b c t → Wrote a c (s ++ t)
@@ -54,7 +61,7 @@ pub one_err : {T E : Type 0} (r : Result T E) {a b : HostState} {s : List ℕ} (
 one_err r {a = a} {b = b} t is p = on_err r (subst (λ x. WrotePart a b x) (sym is) (part_and_more t p))
 
 -- a loop over pieces: none, one more, and all
-pub loop_none : {a : HostState} (text : ℕ → List ℕ) → IsTrue (IsCreated a Report) → Wrote a a (texts_below text 0)
+pub loop_none : {a : HostState} (text : ℕ → List ℕ) → IsTrue (is_created a Report) → Wrote a a (texts_below text 0)
 unfolding texts_below
 loop_none {a = a} text created = wrote_nothing a created
 
@@ -100,6 +107,62 @@ cores_are v = refl
 pub changes_are : (v : View) → changes_text v ≡ texts_below (λ place. changed_text v (v.base / v.line_bytes + place)) (length v.memory / v.line_bytes)
 unfolding changes_text
 changes_are v = refl
+
+pub sets_are : (v : View) (i : ℕ) → cache_text v i ≡ texts_below (set_text v i) v.sets
+unfolding cache_text
+sets_are v i = refl
+
+pub caches_are : (v : View) → caches_text v ≡ texts_below (cache_text v) v.harts
+unfolding caches_text
+caches_are v = refl
+
+-- the texts of a list's elements by their places
+texts_of_places : {A : Type 0} (text : A → List ℕ) (xs : List A) (n : ℕ) → texts_below (λ i. text_if_some text (slice_get xs i)) n ≡ flat_map text (take n xs)
+unfolding texts_below
+texts_of_places text xs zero = refl
+texts_of_places text xs (suc n) =
+    ⊎_elim
+    (λ (found : (x : _) × (n < length xs) × (slice_get xs n ≡ Some x) × (get_or xs n x ≡ x)).
+    ap (λ front. front ++ text_if_some text (slice_get xs n)) (texts_of_places text xs n)
+    ∙ ap (λ o. flat_map text (take n xs) ++ text_if_some text o) found.2
+    ∙ ap (λ last. flat_map text (take n xs) ++ last) (sym (append-nil (text found.0)))
+    ∙ sym (flat_map-append text (take n xs) (found.0 ∷ []))
+    ∙ ap (λ x. flat_map text (take n xs ++ x ∷ [])) (sym found.3)
+    ∙ ap (flat_map text) (sym (take-suc xs n found.0 found.1)))
+    (λ (past : (length xs ≤ n) × (slice_get xs n ≡ None)).
+    ap (λ front. front ++ text_if_some text (slice_get xs n)) (texts_of_places text xs n)
+    ∙ ap (λ o. flat_map text (take n xs) ++ text_if_some text o) past.1
+    ∙ append-nil (flat_map text (take n xs))
+    ∙ ap (flat_map text) (take_all n past.0 ∙ sym (take_all (suc n) (omega arith))))
+    (slice_get_cases xs n).1
+  where
+    take_all : (k : ℕ) → length xs ≤ k → take k xs ≡ xs
+    take_all k long = grind (arith, common_steps)
+
+-- and of all of them
+texts_of_all : {A : Type 0} (text : A → List ℕ) (xs : List A) (n : ℕ) → length xs ≤ n → texts_below (λ i. text_if_some text (slice_get xs i)) n ≡ flat_map text xs
+texts_of_all text xs n long = texts_of_places text xs n ∙ ap (flat_map text) (take_all long)
+  where
+    take_all : length xs ≤ n → take n xs ≡ xs
+    take_all long = grind (arith, common_steps)
+
+pub slots_are : (v : View) → IsShown v → (i set : ℕ) → set_text v i set ≡ texts_below (slot_text v i set) 8
+unfolding set_text slot_text
+slots_are v kept i set = sym (texts_of_all (tag_text v i) (v.tags i set) 8 (kept.short i set))
+
+pub notes_are : (v : View) → notes_text v ≡ texts_below (note_at_text v) (length v.trace.notes)
+unfolding notes_text note_at_text
+notes_are v = sym (texts_of_all (note_text v) v.trace.notes (length v.trace.notes) (omega arith))
+
+-- what holds of all elements holds of the one at a place
+at_place : {A : Type 0} (P : A → Type 0) (xs : List A) (i : ℕ) (x : A) → All P xs → slice_get xs i ≡ Some x → P x
+at_place P xs i x all is = subst P (get_or_from_slice_get xs i x x is) (all i x (slice_get_within xs i x is))
+
+pub slot_addressed : (v : View) → IsShown v → (i set way : ℕ) (tag : Line × Mesi) → slice_get (v.tags i set) way ≡ Some tag → IsAddressed v.line_bytes tag.0
+slot_addressed v kept i set way tag is = at_place (λ tag. IsAddressed v.line_bytes tag.0) (v.tags i set) way tag (kept.held i set) is
+
+pub note_addressed : (v : View) → IsShown v → (place : ℕ) (note : Note) → slice_get v.trace.notes place ≡ Some note → IsAddressed v.line_bytes note.line
+note_addressed v kept place note is = at_place (λ note. IsAddressed v.line_bytes note.line) v.trace.notes place note kept.noted is
 
 -- a hart and a core: the line, and then the registers
 pub hart_pieces : (v : View) (i : ℕ) (regs : Regs) (status : HartStatus) (line : List ℕ) → regs ≡ (v.hart i).regs → status ≡ (v.hart i).status → line ≡ hart_line_text i status regs.pc → hart_text v i ≡ line ++ registers_text regs.x

@@ -3,13 +3,14 @@ ghost use Rattle.std.specs.Prelude.{◌≡◌, ◌+◌, ◌<◌, ◌≤◌, [], 
 ghost use Rattle.std.specs.Fmt.{decimal};
 ghost use Rattle.arrayvec.specs.ArrayVec.{array_vec_len};
 ghost use Rattle.conda_base.specs.Digits.{hex_word};
-ghost use Rattle.run_report.specs.Texts.{head_text, trap_text, hart_status_text, core_status_text, hart_line_text, core_line_text, register_line_text, changed_line_text};
+ghost use Rattle.run_report.specs.Texts.{head_text, trap_text, hart_status_text, core_status_text, hart_line_text, core_line_text, register_line_text, changed_line_text, state_text_of, tag_line_text, kind_text, total_text, totals_line_text, note_line_text};
 
 use crate::hex::push_bytes_digits;
 use arrayvec::ArrayVec;
-use conda_base::{push_bytes, push_decimal, word_digits};
+use conda_base::{Mesi, push_bytes, push_decimal, word_digits};
 use offload_calls::{CoreStatus, HartStatus};
 use rv32_hart::Trap;
+use traffic_trace::{Kind, Traffic};
 
 /// Room for the longest line, which has 271 bytes.
 pub type TextLine = ArrayVec<u8, 288>;
@@ -162,6 +163,92 @@ pub fn changed_line(addr: u32, bytes: &[u8]) -> TextLine
     push_word(&mut line, addr);
     push_bytes(&mut line, b" ");
     push_bytes_digits(&mut line, bytes);
+    push_bytes(&mut line, b"\n");
+    line
+}
+
+fn state_letter(state: Mesi) -> u8
+    ensures { result ∷ [] ≡ state_text_of state }
+{
+    match state {
+        Mesi::M => b'M',
+        Mesi::E => b'E',
+        Mesi::S => b'S',
+    }
+}
+
+/// The line of a line of a hart's cache.
+#[tactic(auto, unfolding(crate::specs::Texts::tag_line_text))]
+pub fn tag_line(hart: u8, addr: u32, state: Mesi) -> TextLine
+    ensures { result.items ≡ tag_line_text hart addr state }
+{
+    let mut line = ArrayVec::new();
+    push_bytes(&mut line, b"tag ");
+    push_number(&mut line, hart);
+    push_bytes(&mut line, b" ");
+    push_word(&mut line, addr);
+    push_bytes(&mut line, b" ");
+    push_bytes(&mut line, &[state_letter(state)]);
+    push_bytes(&mut line, b"\n");
+    line
+}
+
+fn kind_word(kind: Kind) -> &'static [u8]
+    ensures text { result.now ≡ kind_text kind }
+    ensures short { length result.now ≤ 8 }
+{
+    match kind {
+        Kind::Fill => b"fill",
+        Kind::Back => b"back",
+        Kind::Down => b"down",
+        Kind::Drop => b"drop",
+        Kind::Evict => b"evict",
+        Kind::CoreFill => b"corefill",
+        Kind::Merge => b"merge",
+    }
+}
+
+fn push_total(out: &mut TextLine, traffic: &Traffic, kind: Kind)
+    requires { array_vec_len out.old + 30 ≤ 288 }
+    ensures text { out.new.items ≡ out.old.items ++ total_text traffic.now kind }
+    ensures len { array_vec_len out.new ≤ array_vec_len out.old + 30 }
+{
+    push_bytes(out, b" ");
+    push_bytes(out, kind_word(kind));
+    push_bytes(out, b" ");
+    push_count(out, traffic.total(kind));
+}
+
+/// The line of the seven totals.
+#[tactic(auto, unfolding(crate::specs::Texts::totals_line_text))]
+pub fn totals_line(traffic: &Traffic) -> TextLine
+    ensures { result.items ≡ totals_line_text traffic.now }
+{
+    let mut line = ArrayVec::new();
+    push_bytes(&mut line, b"traffic");
+    push_total(&mut line, traffic, Kind::Fill);
+    push_total(&mut line, traffic, Kind::Back);
+    push_total(&mut line, traffic, Kind::Down);
+    push_total(&mut line, traffic, Kind::Drop);
+    push_total(&mut line, traffic, Kind::Evict);
+    push_total(&mut line, traffic, Kind::CoreFill);
+    push_total(&mut line, traffic, Kind::Merge);
+    push_bytes(&mut line, b"\n");
+    line
+}
+
+/// The line of a note.
+#[tactic(auto, unfolding(crate::specs::Texts::note_line_text))]
+pub fn note_line(kind: Kind, who: u8, addr: u32) -> TextLine
+    ensures { result.items ≡ note_line_text kind who addr }
+{
+    let mut line = ArrayVec::new();
+    push_bytes(&mut line, b"note ");
+    push_bytes(&mut line, kind_word(kind));
+    push_bytes(&mut line, b" ");
+    push_number(&mut line, who);
+    push_bytes(&mut line, b" ");
+    push_word(&mut line, addr);
     push_bytes(&mut line, b"\n");
     line
 }

@@ -1,12 +1,13 @@
 // What a report is made of.
-ghost use Rattle.std.specs.Prelude.{◌≡◌, ◌<◌, ◌≤◌, ◌/◌, length};
+ghost use Rattle.std.specs.Prelude.{◌≡◌, ◌<◌, ◌≤◌, ◌/◌, length, slice_get};
 ghost use Rattle.conda_base.specs.Lines.{IsLineSize, IsLineOf, line_number};
 ghost use Rattle.conda_base.specs.Bytes.{handed_out};
 ghost use Rattle.run_report.specs.View.{View, IsShown, line_of};
 
-use conda_base::Line;
+use conda_base::{Line, Mesi};
 use offload_calls::{CoreStatus, HartStatus};
 use rv32_hart::Regs;
+use traffic_trace::Traffic;
 
 /// A simulator, as its report shows it.
 pub trait Shown {
@@ -34,6 +35,22 @@ pub trait Shown {
         ensures regs { result.0 ≡ ((shown self.now).core j).regs }
         ensures status { result.1 ≡ ((shown self.now).core j).status };
 
+    /// The number of sets of each hart's cache.
+    fn sets(&self) -> u32
+        ensures value { result ≡ (shown self.now).sets }
+        ensures kept { IsShown (shown self.now) };
+
+    /// The line of a way of a set of a hart's cache, way 0 being the most recent.
+    fn slot(&self, i: u8, set: u32, way: u32) -> Option<(Line, Mesi)>
+        requires hart { i < (shown self.now).harts }
+        requires set { set < (shown self.now).sets }
+        ensures { result ≡ slice_get ((shown self.now).tags i set) way };
+
+    /// The notes of traffic so far.
+    fn traffic(&self) -> &Traffic
+        ensures value { result.now ≡ (shown self.now).trace }
+        ensures kept { IsShown (shown self.now) };
+
     /// The first line of memory, and the number of lines.
     fn lines(&self) -> (Line, u32)
         ensures first { result.0.0 ≡ line_number (shown self.now).base (shown self.now).line_bytes }
@@ -47,11 +64,13 @@ pub trait Shown {
 
     /// Hands out the bytes of a line of memory, and zeros after them.
     fn line(&self, l: Line, out: &mut [u8; 128])
-        requires { IsLineOf (shown self.now).base (length (shown self.now).memory) (shown self.now).line_bytes l.0 }
+        requires { IsLineOf (shown self.now).base (length (shown self.now).memory)
+            (shown self.now).line_bytes l.0 }
         ensures { out.new ≡ handed_out (line_of (shown self.now) (shown self.now).memory l.0) };
 
     /// Hands out the bytes of a line as they were loaded, and zeros after them.
     fn loaded(&self, l: Line, out: &mut [u8; 128])
-        requires { IsLineOf (shown self.now).base (length (shown self.now).memory) (shown self.now).line_bytes l.0 }
+        requires { IsLineOf (shown self.now).base (length (shown self.now).memory)
+            (shown self.now).line_bytes l.0 }
         ensures { out.new ≡ handed_out (line_of (shown self.now) (shown self.now).loaded l.0) };
 }

@@ -422,7 +422,8 @@ fn read_statement(text: &[u8]) -> Option<Option<Statement<'_>>>
 }
 
 fn read_labeled<'a>(label: Option<&'a [u8]>, text: &'a [u8]) -> Option<SourceLine<'a>>
-    ensures { Gives line_view result (labeled (option_map name_view label.entry) (pieces text.now)) }
+    ensures { Gives line_view result
+        (labeled (option_map name_view label.entry) (pieces text.now)) }
 {
     let statement = read_statement(text)?;
     Some(SourceLine { label, statement })

@@ -120,7 +120,8 @@ fn add_label<'a>(
     label: Option<&'a [u8]>,
     place: Place,
 ) -> Result<(), AllocError>
-    ensures { OnOk result (HasAdded (option_map name_view label.entry) place labels.old labels.new) }
+    ensures { OnOk result (HasAdded (option_map name_view label.entry) place labels.old
+        labels.new) }
 {
     match label {
         None => Ok(()),

@@ -56,6 +56,14 @@ impl Code {
         &self.bytes
     }
 
+    /// The ranges that instructions may be fetched from, each a first address and a length in bytes.
+    pub fn ranges(&self) -> &[(u32, u32)]
+        ensures value { result.now ≡ self.now.ranges }
+        ensures code { IsCode self.now }
+    {
+        self.ranges.as_slice()
+    }
+
     /// The little-endian word at `pc`, if it may be fetched.
     pub fn word(&self, pc: u32) -> Option<u32>
         ensures value { result ≡ word_at self.now pc }

@@ -176,10 +176,12 @@ shows_nothing s good begun =
     let no_part : is_last_line true s.begun ≡ false = grind (arith, nat_tests, begun.short) in
     rw good (rw (append-nil s.begun) (rw (judged_part true s.begun begun.no_feed) (rw no_part refl)))
 
+pub shows_none : (start s : Progress) (piece : List ℕ) → Feeds start piece [] s → s.bad ≡ None → IsBegun s.begun → shown start piece ≡ []
+shows_none start s piece f good begun =
+    ap (shown start) (sym (append-nil piece)) ∙ f.whole true [] ∙ shows_nothing s good begun
+
 pub answer_more : (start s : Progress) (piece : List ℕ) (u : ℕ) → Feeds start piece [] s → s.bad ≡ None → IsBegun s.begun → Fed_is.More u ≡ answer_at u (shown start piece)
-answer_more start s piece u f good begun =
-    let shows : shown start piece ≡ [] = ap (shown start) (sym (append-nil piece)) ∙ f.whole true [] ∙ shows_nothing s good begun in
-    rw shows refl
+answer_more start s piece u f good begun = rw (shows_none start s piece f good begun) refl
 
 -- a part of a piece has no more line feeds than its length says
 pub feeds_in_taken : (piece : List ℕ) (i : ℕ) → feeds_in (take i piece) ≤ i

@@ -1,5 +1,5 @@
 -- What a schedule asks for, line by line, and a reader that has met a part of it.
-use Rattle.std.specs.Prelude.{◌≡◌, ℕ, ◌+◌, ◌-◌, ◌<◌, ◌≤◌, Bool, true, false, List, [], ◌∷◌, ◌++◌, length, ◌⊎◌, Option, Some, None, slice_get, IsTrue, if◌then◌else◌}
+use Rattle.std.specs.Prelude.{◌≡◌, ℕ, ◌+◌, ◌-◌, ◌<◌, ◌≤◌, Bool, true, false, List, [], ◌∷◌, ◌++◌, length, ◌⊎◌, Option, Some, None, slice_get, take, IsTrue, if◌then◌else◌}
 use Rattle.std.specs.List.{list_any}
 use Rattle.conda_base.specs.declared.actor.Actor.{Actor}
 use Rattle.schedule_log.specs.declared.line.Reading.{Reading}
@@ -102,11 +102,14 @@ answer_at used [] = Fed_is.More used
 answer_at used (Asks actor count ∷ later) = Fed_is.Events actor count used
 answer_at used (Fails line why ∷ later) = Fed_is.Bad line why
 
--- An answer with events ends at a line feed of the piece. One that wants more has used up the piece.
-abbrev pub IsUsed : Fed → List ℕ → Type 0
-IsUsed (Fed_is.Events actor count used) piece = slice_get piece (used - 1) ≡ Some 10 × (0 < used) × (used ≤ length piece)
-IsUsed (Fed_is.More used) piece = used ≡ length piece
-IsUsed (Fed_is.Bad line why) piece = Unit {0}
+-- An answer with events ends at the line feed of their line: nothing is found before it. One that
+-- wants more has used up the piece.
+abbrev pub IsUsed : Progress → Fed → List ℕ → Type 0
+IsUsed old (Fed_is.Events actor count used) piece =
+    (slice_get piece (used - 1) ≡ Some 10) × (0 < used) × (used ≤ length piece)
+    × (shown old (take (used - 1) piece) ≡ [])
+IsUsed old (Fed_is.More used) piece = used ≡ length piece
+IsUsed old (Fed_is.Bad line why) piece = Unit {0}
 
 -- the bad line that an answer names
 abbrev pub bad_by : Fed → Option BadLine

@@ -2,6 +2,7 @@
 use Rattle.std.specs.Prelude.{ℕ, ◌+◌, Bool, List, [], ◌∷◌, ◌++◌, length, take, replicate, if◌then◌else◌, nat_le, nat_lt}
 use Rattle.conda_base.specs.declared.actor.Actor.{Actor}
 use Rattle.schedule_log.specs.Schedule.{judged_lines}
+use Rattle.schedule_log.specs.declared.limits.TheConstants.{MOST_BYTES, MOST_EVENTS}
 use Rattle.schedule_log.specs.Findings.{Finding, Asks, Fails, findings, found_from}
 
 -- every line is good and no limit is passed; a line of this number is bad for this cause; or this limit is passed
@@ -12,10 +13,10 @@ pub data Verdict : Type 0 where
 
 -- the most events of a schedule, and the most bytes
 abbrev pub most_events : ℕ
-most_events = 67108864
+most_events = MOST_EVENTS
 
 abbrev pub most_bytes : ℕ
-most_bytes = 1073741824
+most_bytes = MOST_BYTES
 
 -- the events that lines ask for, each actor as often as its line says
 abbrev pub events_of : List Finding → List Actor

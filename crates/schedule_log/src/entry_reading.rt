@@ -116,7 +116,8 @@ fn read_by(letter: u8, rest: &[u8]) -> Option<Entry>
 pub fn read_entry(line: &[u8]) -> Option<Entry>
     ensures text { IfSome result (λ entry. text_of entry ≡ line.now) }
     ensures in_range { IfSome result IsEntry }
-    ensures every { (entry : Entry) → IsEntry entry → text_of entry ≡ line.now → result ≡ Some entry }
+    ensures every { (entry : Entry) → IsEntry entry → text_of entry ≡ line.now
+        → result ≡ Some entry }
 {
     if line.len() < 2 || line[1] != b' ' {
         return None;

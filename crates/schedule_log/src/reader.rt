@@ -90,9 +90,10 @@ impl Reader {
     /// nothing more.
     pub fn feed(&mut self, piece: &[u8]) -> Fed
         requires { self.old.ended < 2 ^ 62 }
-        ensures feeds { Feeds self.old (take (used_by result piece.now) piece.now) (given_by result) self.new }
+        ensures feeds { Feeds self.old (take (used_by result piece.now) piece.now) (given_by result)
+            self.new }
         ensures answer { result ≡ answer_at (used_by result piece.now) (shown self.old piece.now) }
-        ensures used { IsUsed result piece.now }
+        ensures used { IsUsed self.old result piece.now }
         ensures more { (result ≡ Fed.More (length piece.now)) ↔ (shown self.old piece.now ≡ []) }
         ensures bad_line { (line why : ℕ) →
             (result ≡ Fed.Bad line why) ↔ (shown self.old piece.now ≡ Fails line why ∷ []) }

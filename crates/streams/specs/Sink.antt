@@ -1,7 +1,7 @@
 -- A text on its way into a role's file.
 use Rattle.std.specs.Prelude.{◌≡◌, ℕ, List, ◌++◌, IsTrue, Option, Some, None}
 use Rattle.conda_host.specs.declared.outside.Role.{Role}
-use Rattle.conda_host.specs.State.{HostState, IsCreated, IsWriting}
+use Rattle.conda_host.specs.State.{HostState, is_created, IsWriting}
 
 -- what clauses see of a sink: its role, the bytes that are yet to be written, and how many fit
 -- behind them
@@ -16,7 +16,7 @@ text_in s sink = (s.role sink.role).written ++ sink.pending
 
 -- the role's file is made, and holds what was written to it
 pub record IsMade (s : HostState) (role : Role) : Type 0 where
-  pub created : IsTrue (IsCreated s role)
+  pub created : IsTrue (is_created s role)
   pub file : IsTrue s.tells → s.file (s.role role).name ≡ Some (s.role role).written
 
 -- bytes were added to a sink's text, and some of it was written

@@ -3,7 +3,7 @@
 use Rattle.std.specs.Prelude.{◌≡◌, ◌≢◌, ℕ, Bool, false, ◌||◌, ◌==◌, if◌then◌else◌, IsTrue, List, [], ◌++◌, Option, Some, None, IfSome}
 use Rattle.conda_host.specs.declared.outside.Role.{Role}
 use Rattle.conda_host.specs.Role.{index_of}
-use Rattle.conda_host.specs.State.{HostState, RoleState, KeepsOpened, KeepsCreated, IsLater, IsOpened, RoseForAll}
+use Rattle.conda_host.specs.State.{HostState, RoleState, KeepsOpened, KeepsCreated, IsLater, is_opened, RoseForAll}
 use Rattle.streams.specs.declared.fault.Fault.{Fault}
 use Rattle.streams.specs.declared.fault.Fault.TheVariants.{Read, Write}
 use Rattle.streams.specs.declared.sinks.Sinks.{Sinks}
@@ -57,7 +57,7 @@ pub record AreMade (s : HostState) (sinks : Sinks) : Type 0 where
 
 -- the source is opened, and the sinks are made
 pub record AreOpen (s : HostState) (source : Role) (sinks : Sinks) : Type 0 where
-  pub opened : IsTrue (IsOpened s source)
+  pub opened : IsTrue (is_opened s source)
   pub made : AreMade s sinks
   pub other : has_sink sinks source ≡ false
 
@@ -88,7 +88,7 @@ pub record IsStreaming (source : Role) (sinks : Role → Bool) (old new : HostSt
   pub roles : (r : Role) → r ≢ source → sinks r ≡ false → new.role r ≡ old.role r
   pub made : (r : Role) → IsTrue (sinks r) → StaysMade (old.role r) (new.role r)
   pub read : sinks source ≡ false → KeepsCreated (old.role source) (new.role source)
-  pub opened : IsTrue (IsOpened old source) → IsTrue (IsOpened new source)
+  pub opened : IsTrue (is_opened old source) → IsTrue (is_opened new source)
 
 -- a fault has its cause: the counts of its role rose for every name
 abbrev pub HasFaultCause : Role → (Role → Bool) → HostState → HostState → Option Fault → Type 0

@@ -1,6 +1,6 @@
 // A buffer in front of a role's file.
 ghost use Rattle.std.specs.Prelude.{◌≡◌, ◌+◌, ◌≤◌, [], ◌++◌, drop, take, length, IsTrue, IfOk, OnOk, OnErr};
-ghost use Rattle.conda_host.specs.State.{IsCreated, RoseForAll};
+ghost use Rattle.conda_host.specs.State.{is_created, RoseForAll};
 ghost use Rattle.streams.specs.Sink.{SinkView, Adds};
 
 use crate::MOST_PUT;
@@ -41,7 +41,7 @@ fn drain<H: Host>(
     bytes: &[u8],
     start: &mut usize,
 ) -> Result<(), HostFailed>
-    requires created { IsTrue (IsCreated (H.state host.old) role) }
+    requires created { IsTrue (is_created (H.state host.old) role) }
     requires within { start.old ≤ length bytes.now }
     ensures all { OnOk result (start.new ≡ length bytes.now) }
     ensures within { start.new ≤ length bytes.now }
@@ -90,7 +90,7 @@ impl Sink {
 
     /// Writes what is pending.
     pub fn flush<H: Host>(&mut self, host: &mut H) -> Result<(), HostFailed>
-        requires { IsTrue (IsCreated (H.state host.old) self.old.role) }
+        requires { IsTrue (is_created (H.state host.old) self.old.role) }
         ensures empty { OnOk result (self.new.pending ≡ []) }
         ensures room { OnOk result (MOST_PUT ≤ self.new.room) }
         ensures adds { Adds (H.state host.old) (H.state host.new) self.old self.new [] }
@@ -115,7 +115,7 @@ impl Sink {
 
     /// Adds bytes to the text.
     pub fn put<H: Host>(&mut self, host: &mut H, bytes: &[u8]) -> Result<(), HostFailed>
-        requires created { IsTrue (IsCreated (H.state host.old) self.old.role) }
+        requires created { IsTrue (is_created (H.state host.old) self.old.role) }
         requires short { length bytes.now ≤ MOST_PUT }
         ensures ok { OnOk result (Adds (H.state host.old)
             (H.state host.new) self.old self.new bytes.now) }

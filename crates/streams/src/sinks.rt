@@ -1,6 +1,6 @@
 // The sinks of a command.
 ghost use Rattle.std.specs.Prelude.{◌≡◌, ◌≤◌, [], length, IsTrue, IfSome, IsSomeAnd, IfErr, OnOk, OnErr};
-ghost use Rattle.conda_host.specs.State.{IsCreated, RoseForAll};
+ghost use Rattle.conda_host.specs.State.{is_created, RoseForAll};
 ghost use Rattle.conda_host.specs.declared.outside.Role.{Role as TheRole};
 ghost use Rattle.streams.specs.Seen.{fault_in};
 ghost use Rattle.streams.specs.Sink.{AddsIf};
@@ -28,7 +28,7 @@ fn is_role(sink: &Option<Sink>, role: Role) -> bool
 
 // Adds bytes to a sink, if there is one.
 fn put_into<H: Host>(sink: &mut Option<Sink>, host: &mut H, bytes: &[u8]) -> Result<(), Fault>
-    requires created { IfSome sink.old (λ s. IsTrue (IsCreated (H.state host.old) s.role)) }
+    requires created { IfSome sink.old (λ s. IsTrue (is_created (H.state host.old) s.role)) }
     requires short { length bytes.now ≤ MOST_PUT }
     ensures ok { OnOk result (AddsIf (H.state host.old)
         (H.state host.new) sink.old sink.new bytes.now) }
@@ -48,7 +48,7 @@ fn put_into<H: Host>(sink: &mut Option<Sink>, host: &mut H, bytes: &[u8]) -> Res
 
 // Writes what is pending of a sink, if there is one.
 fn flush_of<H: Host>(sink: &mut Option<Sink>, host: &mut H) -> Result<(), Fault>
-    requires { IfSome sink.old (λ s. IsTrue (IsCreated (H.state host.old) s.role)) }
+    requires { IfSome sink.old (λ s. IsTrue (is_created (H.state host.old) s.role)) }
     ensures whole { OnOk result (IfSome sink.new (λ s. s.pending ≡ [])) }
     ensures adds { AddsIf (H.state host.old) (H.state host.new) sink.old sink.new [] }
     ensures fault { IfErr result (λ f. IsSomeAnd sink.old (λ s. f ≡ Fault.Write s.role)) }

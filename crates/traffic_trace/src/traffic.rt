@@ -1,5 +1,5 @@
 // Totals and the last notes.
-ghost use Rattle.std.specs.Prelude.{◌≡◌, IfOk, slice_get};
+ghost use Rattle.std.specs.Prelude.{◌≡◌, IfOk, length, slice_get};
 ghost use Rattle.traffic_trace.specs.Notes.{no_notes, noted, total_of};
 
 use crate::note::{Kind, Note};
@@ -50,6 +50,13 @@ impl Traffic {
         self.totals[k.place()]
     }
 
+    /// How many notes are kept now.
+    pub fn kept(&self) -> usize
+        ensures { result ≡ length self.now.notes }
+    {
+        self.recent.len()
+    }
+
     /// A kept note by its place, the oldest of them first.
     pub fn last(&self, place: usize) -> Option<Note>
         ensures { result ≡ slice_get self.now.notes place }
@@ -72,6 +79,7 @@ mod tests {
         }
         assert_eq!(rt; traffic.total(Kind::Fill), 3);
         assert_eq!(rt; traffic.total(Kind::Back), 0);
+        assert_eq!(rt; traffic.kept(), 2);
         assert_eq!(rt; traffic.last(0), Some(fill_of(1)));
         assert_eq!(rt; traffic.last(1), Some(fill_of(2)));
         assert_eq!(rt; traffic.last(2), None);

@@ -1,10 +1,10 @@
 -- The limits of a portion, which a configuration gives.
 use Rattle.std.specs.Prelude.{◌≤◌}
 use Rattle.conda_base.specs.Lines.{IsLineSize}
-use Rattle.chip_config.specs.declared.config.Config.{Config}
+use Rattle.chip_config.specs.Settings.{Settings}
 use Rattle.try_runs.specs.declared.limits.Limits.{Limits}
 
-abbrev pub limits_of : Config → Limits
+abbrev pub limits_of : Settings → Limits
 limits_of c = record {
   line_bytes = c.line_bytes;
   core_sets = c.core_sets;

@@ -1,5 +1,5 @@
 -- Marks on the places of a line.
-use Rattle.std.proofs.Common.{◌≡◌, ℕ, ◌+◌, ◌-◌, ◌*◌, ◌%◌, ◌^◌, ◌<◌, ◌≤◌, ◌⊎◌, ◌||◌, ⊎_elim, inl, inr, List, length, get_or, zero, suc, eqb, cond, refl, sym, ◌∙◌, ap, arith}
+use Rattle.std.proofs.Common.{◌≡◌, ℕ, ◌+◌, ◌-◌, ◌*◌, ◌%◌, ◌^◌, ◌<◌, ◌≤◌, ◌⊎◌, ◌||◌, ◌/◌, ◌++◌, ⊎_elim, inl, inr, Bool, true, false, List, [], ◌∷◌, length, take, drop, replicate, get_or, zero, suc, eqb, cond, refl, sym, ◌∙◌, ap, arith}
 use Rattle.std.specs.Int.{bit_at, bit_not, w128}
 use Rattle.std.proofs.lemmas.Grind.{same_number_lists}
 use Rattle.conda_base.proofs.MarkLemmas.{length-mixed, get_or-mixed}
@@ -64,8 +64,8 @@ turned mask k x y fits below = go (bit_at mask k) (bit_at (bit_not w128 mask) k)
     go (suc zero) c is small = rw is refl
     go (suc (suc b)) c is small = absurd (omega arith)
 
-pub mixed-turned : (mask : ℕ) (front back : List ℕ) → mask < 2 ^ 128 → length front ≡ 128 → length back ≡ 128 → mixed (bit_not w128 mask) back front ≡ mixed mask front back
-mixed-turned mask front back fits one two =
+pub mixed-turned : (mask : ℕ) (front back : List ℕ) → mask < 2 ^ 128 → length front ≤ 128 → length back ≡ length front → mixed (bit_not w128 mask) back front ≡ mixed mask front back
+mixed-turned mask front back fits few same =
     let turned_len = length-mixed (bit_not w128 mask) back front in
     let len = length-mixed mask front back in
     same_number_lists _ _ (omega arith)
@@ -73,3 +73,28 @@ mixed-turned mask front back fits one two =
     get_or-mixed (bit_not w128 mask) back front k (omega arith) ∙
     turned mask k (get_or front k 0) (get_or back k 0) fits (omega arith) ∙
     sym (get_or-mixed mask front back k (omega arith)))
+
+-- the bytes behind a shorter list stay
+mixed-none : (mask : ℕ) (front : List ℕ) → mixed mask front [] ≡ front
+mixed-none mask [] = refl
+mixed-none mask (f ∷ front) = refl
+
+pub mixed-front : (mask : ℕ) (front back : List ℕ) → mixed mask (take (length back) front) back ++ drop (length back) front ≡ mixed mask front back
+mixed-front mask [] [] = refl
+mixed-front mask [] (b ∷ back) = refl
+mixed-front mask (f ∷ front) [] = refl
+mixed-front mask (f ∷ front) (b ∷ back) = ap (λ rest. cond (eqb (mask % 2) 1) f b ∷ rest) (mixed-front (mask / 2) front back)
+
+-- zeros may be mixed with zeros
+pub mixed-zeros : (mask : ℕ) (front back : List ℕ) (z : ℕ) → ((k : ℕ) → length back ≤ k → get_or front k 0 ≡ 0) → mixed mask front (back ++ replicate z 0) ≡ mixed mask front back
+mixed-zeros mask [] back z zeros = refl
+mixed-zeros mask (f ∷ front) [] zero zeros = refl
+mixed-zeros mask (f ∷ front) [] (suc z) zeros =
+    ap (λ x. x ∷ mixed (mask / 2) front (replicate z 0)) (either (eqb (mask % 2) 1))
+    ∙ ap (λ rest. f ∷ rest) (mixed-zeros (mask / 2) front [] z (λ k from. zeros (suc k) (omega arith)) ∙ mixed-none (mask / 2) front)
+  where
+    either : (b : Bool) → cond b f 0 ≡ f
+    either true = refl
+    either false = sym (zeros 0 (omega arith))
+mixed-zeros mask (f ∷ front) (b ∷ back) z zeros =
+    ap (λ rest. cond (eqb (mask % 2) 1) f b ∷ rest) (mixed-zeros (mask / 2) front back z (λ k from. zeros (suc k) (omega arith)))

@@ -12,6 +12,7 @@ ghost use Rattle.std.specs.Prelude.{
   true,
   false,
   IsTrue,
+  length,
   replicate,
 };
 ghost use Rattle.conda_base.specs.Bytes.{stored, value_at};
@@ -53,7 +54,8 @@ impl Masked {
         requires size { IsAccessSize size }
         requires within { off + size ≤ 128 }
         ensures bytes { self.new.bytes ≡ stored self.old.bytes off size value }
-        ensures marks { (place : ℕ) → is_marked self.new.mask place ≡ (is_marked self.old.mask place || is_within off size place) }
+        ensures marks { (place : ℕ) → is_marked self.new.mask place
+            ≡ (is_marked self.old.mask place || is_within off size place) }
         ensures filled { self.new.filled ≡ self.old.filled }
     {
         write_value(&mut self.bytes, off, size, value);
@@ -70,9 +72,10 @@ impl Masked {
         self.mask & run == run
     }
 
-    /// Takes the bytes that aren't marked from a copy of the line.
-    pub fn fill(&mut self, from: &[u8; 128])
-        requires { self.old.filled ≡ false }
+    /// Takes the bytes that aren't marked from a copy of the line, as many as the copy has.
+    pub fn fill(&mut self, from: &[u8])
+        requires unfilled { self.old.filled ≡ false }
+        requires room { length from.now ≤ 128 }
         ensures bytes { self.new.bytes ≡ mixed self.old.mask self.old.bytes from.now }
         ensures mask { self.new.mask ≡ self.old.mask }
         ensures filled { self.new.filled ≡ true }
@@ -92,11 +95,12 @@ impl Masked {
     }
 }
 
-// Takes the bytes that aren't marked from a copy of the line.
-fn put_unmarked(bytes: &mut [u8; 128], mask: u128, from: &[u8; 128])
+// Takes the bytes that aren't marked from a copy of the line, as many as the copy has.
+fn put_unmarked(bytes: &mut [u8; 128], mask: u128, from: &[u8])
+    requires { length from.now ≤ 128 }
     ensures { bytes.new ≡ mixed mask bytes.old from.now }
 {
-    put_marked(bytes, !mask, from);
+    put_marked(&mut bytes[..from.len()], !mask, from);
 }
 
 // The bits of `size` bytes from `off` on.

@@ -9,6 +9,7 @@ ghost use Rattle.coherent_mem.specs.Parts.{shown};
 ghost use Rattle.coherent_mem.specs.Steps.{IsCoherent, StepsTo};
 
 use crate::coherent::Coherent;
+use crate::coherent::holders::write_back;
 use conda_base::{Line, Mesi};
 use line_memory::Backing;
 use mesi_directory::Row;
@@ -64,13 +65,9 @@ impl Backing for Coherent {
         ensures kept { IsCoherent (shown self.new) }
     {
         if let Row::Owner(o) = self.directory.row(l) {
-            let bytes = self.caches[o as usize].clean(l);
-            self.memory.write(l, &bytes);
-            log.note(Note {
-                kind: Kind::Back,
-                who: o,
-                line: l,
-            });
+            let bytes = self.caches[o as usize].modified_bytes(l);
+            write_back(&mut self.memory, o, l, bytes, log);
+            self.caches[o as usize].clean(l);
             self.settle(o, l);
         }
     }

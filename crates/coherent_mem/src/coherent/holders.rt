@@ -1,5 +1,5 @@
 // Holders of a line that lose it, or keep it shared.
-ghost use Rattle.std.specs.Prelude.{◌≡◌, ◌<◌, true, length, is_some, IsSome};
+ghost use Rattle.std.specs.Prelude.{◌≡◌, ◌<◌, true, length, is_some, IsSome, option_copied};
 ghost use Rattle.line_memory.specs.Access.{shared_line};
 ghost use Rattle.line_memory.specs.Backing.{shape_of};
 ghost use Rattle.line_memory.specs.Memory.{IsIn};
@@ -23,8 +23,9 @@ impl Coherent {
         ensures notes { let b = shown self.old in
             log.new ≡ all_noted log.old (back_notes l h (held_state (shape_of b) b.tags h l)) }
     {
-        let bytes = self.caches[h as usize].invalidate(l);
+        let bytes = self.caches[h as usize].modified_bytes(l);
         write_back(&mut self.memory, h, l, bytes, log);
+        self.caches[h as usize].invalidate(l);
         self.directory.leave(l, h);
         self.settle(h, l);
     }
@@ -37,8 +38,9 @@ impl Coherent {
         ensures notes { let b = shown self.old in
             log.new ≡ all_noted log.old (down_notes l o (held_state (shape_of b) b.tags o l)) }
     {
-        let bytes = self.caches[o as usize].downgrade(l);
+        let bytes = self.caches[o as usize].modified_bytes(l);
         write_back(&mut self.memory, o, l, bytes, log);
+        self.caches[o as usize].downgrade(l);
         self.directory.share(l, o);
         log.note(Note {
             kind: Kind::Down,
@@ -79,13 +81,19 @@ impl Coherent {
 }
 
 // Puts the bytes of a line that a holder had modified into memory.
-fn write_back(memory: &mut LineMemory, h: u8, l: Line, bytes: Option<[u8; 128]>, log: &mut Traffic)
+pub(super) fn write_back(
+    memory: &mut LineMemory,
+    h: u8,
+    l: Line,
+    bytes: Option<&[u8; 128]>,
+    log: &mut Traffic,
+)
     requires { IsIn memory.old l }
-    ensures memory { memory.new ≡ backed memory.old l bytes }
-    ensures notes { log.new ≡ all_noted log.old (backed_notes h l bytes) }
+    ensures memory { memory.new ≡ backed memory.old l (option_copied bytes.entry) }
+    ensures notes { log.new ≡ all_noted log.old (backed_notes h l (option_copied bytes.entry)) }
 {
     if let Some(bytes) = bytes {
-        memory.write(l, &bytes);
+        memory.write(l, bytes);
         log.note(Note {
             kind: Kind::Back,
             who: h,

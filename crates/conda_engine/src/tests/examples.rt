@@ -3,7 +3,8 @@ use super::{
     AMPLE, ENTRY, FIRST, Grants, ONE_LETTER, ORDER, REPORT, WORDS, host_with, named, plain,
     push_words, run, run_on,
 };
-use crate::{Status, drive, prepare};
+use crate::{Prepared, Status, drive, prepare};
+use chip_core::Chip;
 use conda_host::MemoryHost;
 use run_report::Shown;
 use std::test::Fail;
@@ -21,7 +22,7 @@ fn an_empty_schedule(rt: HostRuntime) -> Result<(), Fail> {
     let (status, host) = run(alloc, plain(alloc, &ONE_LETTER)?, b"")?;
     assert_eq!(rt; status, Status::Done);
     let report =
-        "events 0\noutput 0\nhart 0 run pc 00010000\nx11 00000001\ncore 0 idle pc 00000000\n";
+        "events 0\noutput 0\nhart 0 run pc 00010000\nx11 00000001\ncore 0 idle pc 00000000\ntraffic fill 0 back 0 down 0 drop 0 evict 0 corefill 0 merge 0\n";
     assert_eq!(rt; host.file("report"), Some(report.as_bytes()));
     assert_eq!(rt; host.file("order"), Some(b"".as_slice()));
     Ok(())
@@ -56,7 +57,7 @@ fn a_misaligned_target(rt: HostRuntime) -> Result<(), Fail> {
     assert_eq!(rt; status, Status::Done);
     assert_eq!(rt; host.file("order"), Some(b"s 0\n- h0\n".as_slice()));
     let report =
-        "events 2\noutput 0\nhart 0 trap 0 00010002 pc 00010000\nx11 00000001\ncore 0 idle pc 00000000\n";
+        "events 2\noutput 0\nhart 0 trap 0 00010002 pc 00010000\nx11 00000001\ncore 0 idle pc 00000000\ntraffic fill 0 back 0 down 0 drop 0 evict 0 corefill 0 merge 0\n";
     assert_eq!(rt; host.file("report"), Some(report.as_bytes()));
     Ok(())
 }
@@ -83,7 +84,7 @@ fn a_word_that_is_no_instruction(rt: HostRuntime) -> Result<(), Fail> {
     let (status, host) = run(alloc, plain(alloc, &[0xffff_ffff])?, b"h0 1")?;
     assert_eq!(rt; status, Status::Done);
     let report =
-        "events 1\noutput 0\nhart 0 trap 2 ffffffff pc 00010000\nx11 00000001\ncore 0 idle pc 00000000\n";
+        "events 1\noutput 0\nhart 0 trap 2 ffffffff pc 00010000\nx11 00000001\ncore 0 idle pc 00000000\ntraffic fill 0 back 0 down 0 drop 0 evict 0 corefill 0 merge 0\n";
     assert_eq!(rt; host.file("report"), Some(report.as_bytes()));
     Ok(())
 }
@@ -95,7 +96,7 @@ fn a_branch_that_is_not_taken(rt: HostRuntime) -> Result<(), Fail> {
     let (status, host) = run(alloc, plain(alloc, &[0x0000_1163])?, b"h0 1")?;
     assert_eq!(rt; status, Status::Done);
     let report =
-        "events 1\noutput 0\nhart 0 run pc 00010004\nx11 00000001\ncore 0 idle pc 00000000\n";
+        "events 1\noutput 0\nhart 0 run pc 00010004\nx11 00000001\ncore 0 idle pc 00000000\ntraffic fill 0 back 0 down 0 drop 0 evict 0 corefill 0 merge 0\n";
     assert_eq!(rt; host.file("report"), Some(report.as_bytes()));
     Ok(())
 }
@@ -108,7 +109,7 @@ fn a_misaligned_load(rt: HostRuntime) -> Result<(), Fail> {
     let (status, host) = run(alloc, image, b"h0 2")?;
     assert_eq!(rt; status, Status::Done);
     let report =
-        "events 2\noutput 0\nhart 0 trap 4 00fffffe pc 00010004\nx5 01000000\nx11 00000001\ncore 0 idle pc 00000000\n";
+        "events 2\noutput 0\nhart 0 trap 4 00fffffe pc 00010004\nx5 01000000\nx11 00000001\ncore 0 idle pc 00000000\ntraffic fill 0 back 0 down 0 drop 0 evict 0 corefill 0 merge 0\n";
     assert_eq!(rt; host.file("report"), Some(report.as_bytes()));
     Ok(())
 }
@@ -138,7 +139,7 @@ fn ready_and_driven(rt: HostRuntime) -> Result<(), Fail> {
     let mut words = named(alloc, &WORDS)?;
     words.push(String::from_str(alloc, "--config=c")?)?;
     let mut host = host_with(alloc, b"{}", plain(alloc, &ONE_LETTER)?, b"h0 3", AMPLE)?;
-    let prepared = prepare(alloc, &words, &mut host).ok().ok_or("not ready")?;
+    let prepared: Prepared<Chip> = prepare(alloc, &words, &mut host).ok().ok_or("not ready")?;
     assert_eq!(rt; prepared.config().harts, 1);
     let (status, chip) = drive(prepared, &mut host);
     assert_eq!(rt; status, Status::Done);

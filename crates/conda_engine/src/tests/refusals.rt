@@ -1,7 +1,5 @@
 // Runs that are refused.
-ghost use Rattle.std.specs.Prelude.{◌≤◌};
-
-use super::{AMPLE, ONE_LETTER, WORDS, host_with, named, plain, run, run_on};
+use super::{AMPLE, ENTRY, Grants, ONE_LETTER, WORDS, host_with, named, plain, run, run_on};
 use crate::{Status, conda, status_text};
 use arrayvec::ArrayVec;
 use chip_config::ConfigFault;
@@ -10,37 +8,60 @@ use elf_loader::ImageFault;
 use std::alloc::{AllocError, Global};
 use std::test::Fail;
 
-// Places of an image's fields.
-const E_ENTRY: usize = 24;
+// What the image of one letter is refused for, with another word at a place: each rule's fault, in
+// the order of the rules, but for those on its length and on two segments; then further ways to break
+// a rule.
+const LIES: [(u8, u32, ImageFault); 19] = [
+    (0, 0x474c_457f, ImageFault::NotElf),
+    (4, 0x0001_0102, ImageFault::NotClass32),
+    (4, 0x0001_0201, ImageFault::NotLittle),
+    (4, 0x0000_0101, ImageFault::BadVersion),
+    (16, 0x00f3_0003, ImageFault::NotExec),
+    (16, 0x003e_0002, ImageFault::NotRiscv),
+    (36, 1, ImageFault::BadFlags(1)),
+    (40, 0x0020_0035, ImageFault::BadHeaderSize),
+    (44, 65, ImageFault::TooManySegments(65)),
+    (28, 0xffff_ffff, ImageFault::TableOutside),
+    (52, 2, ImageFault::Dynamic(0)),
+    (72, 20, ImageFault::BadSegment(0)),
+    (60, 16_777_216, ImageFault::SegmentOutside(0)),
+    (44, 0, ImageFault::NoSegment),
+    (24, 65_538, ImageFault::BadEntry(65_538)),
+    (56, 0xffff_ffff, ImageFault::BadSegment(0)),
+    (60, 0xffff_fffc, ImageFault::SegmentOutside(0)),
+    (76, 6, ImageFault::BadEntry(65_536)),
+    (24, 65_560, ImageFault::BadEntry(65_560)),
+];
 
-const E_FLAGS: usize = 36;
+// A program header for bytes that the first segment has too.
+const SECOND_HEADER: [u32; 8] = [1, 84, ENTRY, ENTRY, 4, 4, 7, 4];
 
-const P_VADDR: usize = 60;
-
-const P_MEMSZ: usize = 72;
+// What configurations are refused for, in the order of the rules.
+const REFUSED: [(&str, ConfigFault); 6] = [
+    ("{", ConfigFault::NotJson),
+    ("[]", ConfigFault::NotObject),
+    ("{\"hart\":1}", ConfigFault::UnknownKey),
+    ("{\"harts\":\"1\"}", ConfigFault::NotNumber(1)),
+    ("{\"harts\":9}", ConfigFault::OutOfRange(1, 9)),
+    (
+        "{\"mem_base\":4294967232,\"mem_bytes\":4096}",
+        ConfigFault::BadMemory(4_294_967_232, 4096),
+    ),
+];
 
 // Puts a word into an image.
-fn put_word(image: &mut Vec<u8>, place: usize, word: u32)
-    requires { place ≤ 100 }
-{
+fn put_word(image: &mut Vec<u8>, place: u8, word: u32) {
     for (i, new) in word.to_le_bytes().into_iter().enumerate() {
-        if let Some(byte) = image.get_mut(place + i) {
+        if let Some(byte) = image.get_mut(usize::from(place) + i) {
             *byte = new;
         }
     }
 }
 
-// What the image of one letter leads to with other words at two places.
-fn status_with(
-    alloc: Global,
-    first: (usize, u32),
-    second: (usize, u32),
-) -> Result<Status, AllocError>
-    requires { (first.0 ≤ 100) × (second.0 ≤ 100) }
-{
-    let mut image = plain(alloc, &ONE_LETTER)?;
-    put_word(&mut image, first.0, first.1);
-    put_word(&mut image, second.0, second.1);
+// What an image leads to with another word at a place.
+fn status_with(alloc: Global, words: &[u32], place: u8, word: u32) -> Result<Status, AllocError> {
+    let mut image = plain(alloc, words)?;
+    put_word(&mut image, place, word);
     let (status, _) = run(alloc, image, b"")?;
     Ok(status)
 }
@@ -59,14 +80,38 @@ fn an_image_that_is_cut(rt: HostRuntime) -> Result<(), Fail> {
 }
 
 #[test]
-fn images_that_lie(rt: HostRuntime) -> Result<(), Fail> {
+fn each_lie_of_an_image(rt: HostRuntime) -> Result<(), Fail> {
     let alloc = rt.alloc();
-    let flags = status_with(alloc, (E_FLAGS, 1), (E_FLAGS, 1))?;
-    assert_eq!(rt; flags, Status::Image(ImageFault::BadFlags(1)));
-    let outside = status_with(alloc, (P_VADDR, 16_777_216), (E_ENTRY, 16_777_216))?;
-    assert_eq!(rt; outside, Status::Image(ImageFault::SegmentOutside(0)));
-    let short = status_with(alloc, (P_MEMSZ, 20), (P_MEMSZ, 20))?;
-    assert_eq!(rt; short, Status::Image(ImageFault::BadSegment(0)));
+    for (place, word, fault) in LIES {
+        let status = status_with(alloc, &ONE_LETTER, place, word)?;
+        assert_eq!(rt; status, Status::Image(fault));
+    }
+    Ok(())
+}
+
+#[test]
+fn two_segments_that_overlap(rt: HostRuntime) -> Result<(), Fail> {
+    let status = status_with(rt.alloc(), &SECOND_HEADER, 44, 2)?;
+    assert_eq!(rt; status, Status::Image(ImageFault::Overlap(1)));
+    Ok(())
+}
+
+#[test]
+fn an_image_of_too_many_bytes(rt: HostRuntime) -> Result<(), Fail> {
+    let alloc = rt.alloc();
+    let grants = Grants {
+        room: 1000,
+        most: 1_000_000,
+        failing: 0,
+    };
+    let image = vec![in alloc; 0u8; 33_554_433]?;
+    let (status, host) = run_on(alloc, b"{}", image, b"h0 6", grants)?;
+    let limit = Status::TooLarge {
+        role: Role::Image,
+        limit: 33_554_432,
+    };
+    assert_eq!(rt; status, limit);
+    assert_eq!(rt; host.file("order"), None);
     Ok(())
 }
 
@@ -126,16 +171,12 @@ fn a_refused_configuration(rt: HostRuntime) -> Result<(), Fail> {
 }
 
 #[test]
-fn refused_configurations(rt: HostRuntime) -> Result<(), Fail> {
+fn each_refused_configuration(rt: HostRuntime) -> Result<(), Fail> {
     let alloc = rt.alloc();
-    let (key, _) = config_status(alloc, b"{\"hart\":1}")?;
-    assert_eq!(rt; key, Status::Config(ConfigFault::UnknownKey));
-    let (list, _) = config_status(alloc, b"[]")?;
-    assert_eq!(rt; list, Status::Config(ConfigFault::NotObject));
-    let (text, _) = config_status(alloc, b"{\"harts\":\"1\"}")?;
-    assert_eq!(rt; text, Status::Config(ConfigFault::NotNumber(1)));
-    let (open, _) = config_status(alloc, b"{")?;
-    assert_eq!(rt; open, Status::Config(ConfigFault::NotJson));
+    for (config, fault) in REFUSED {
+        let (status, _) = config_status(alloc, config.as_bytes())?;
+        assert_eq!(rt; status, Status::Config(fault));
+    }
     Ok(())
 }
 

@@ -1,8 +1,8 @@
-use Rattle.std.proofs.Common.{arith, slice_index}
-use Rattle.chip_config.proofs.ReadingLemmas.{memory_fine, sixteen_of}
+use Rattle.std.proofs.Common.{arith, refl}
+use Rattle.chip_config.specs.Settings.{settings_at}
+use Rattle.chip_config.proofs.ReadingLemmas.{memory_fine}
 use Rattle.chip_config.proofs.reading.configure.Goals as goal
 
 pub returns : goal.returns
 returns c =
-    let n = c.args.numbers.now in
-    (memory_fine (slice_index n 2) (slice_index n 3) (slice_index n 15) (omega arith) c.if-base-line-ne0.false c.if-bytes-line-ne0.false, sixteen_of n c.requires.sixteen)
+    (memory_fine (settings_at c.args.numbers.now) (omega arith) c.if-base-line-ne0.false c.if-bytes-line-ne0.false, refl)

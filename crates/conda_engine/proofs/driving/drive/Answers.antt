@@ -1,32 +1,29 @@
-use Rattle.conda_engine.specs.Outcome.{Ends}
-use Rattle.conda_engine.specs.Preparing.{aim_in, setup_in, worded}
-use Rattle.conda_engine.proofs.DriveFacts.{ends_of_parts, stands_of_parts, complete_of_answer}
-use Rattle.conda_engine.proofs.driving.drive.Given.{Over}
+use Rattle.std.proofs.Common.{subst}
+use Rattle.command_run.specs.Driving.{bytes_of}
+use Rattle.conda_engine.specs.Answers.{Answers}
+use Rattle.conda_engine.specs.Ends.{StandsAfter, account_of, events_until}
+use Rattle.conda_engine.specs.Preparing.{design_in}
+use Rattle.conda_engine.specs.Rows.{drive_command, schedule_outcome}
 use Rattle.conda_engine.proofs.driving.drive.Goals as goal
 
--- what the run leaves, by the names that were handed in
-ended : (g : Over) (c : goal.Joined-files g) → Ends c.args.p.files (g.H.Host.state c.args.host.now) (g.H.Host.state c.drive_run-status.new.host) (aim_in c.args.p (g.H.Host.state c.args.host.now)) c.drive_run-status.result
-ended g c =
-    ends_of_parts (setup_in c.args.p) c.args.p.files (worded c.into_parts-files.result.0) (g.H.Host.state c.args.host.now) (g.H.Host.state c.drive_run-status.new.host) c.drive_run-status.result
-    c.into_parts-files.ensures.files (c.drive_run-status.ensures.ends (setup_in c.args.p) c.into_parts-files.ensures.stands)
+pub returns-clause-answers : goal.returns-clause-answers
+returns-clause-answers g c =
+    let d = design_in c.args.p in
+    let h = g.H.Host.state c.args.host.now in
+    subst (λ f. Answers (drive_command f) (schedule_outcome (account_of g.M.Machine g.M.Simulator.report) d (bytes_of h f.schedule)) h (g.H.Host.state c.drive_task-status.new.host) c.drive_task-status.result)
+    c.into_parts-files.ensures.files (c.drive_task-status.ensures.answers d c.into_parts-files.ensures.stands)
 
-pub returns-clause-done : goal.returns-clause-done
-returns-clause-done g c = λ d. (ended g c).done d
+pub returns-clause-machine : goal.returns-clause-machine
+returns-clause-machine g c =
+    let d = design_in c.args.p in
+    let h = g.H.Host.state c.args.host.now in
+    subst (λ f. StandsAfter g.M.Machine d h (bytes_of h f.schedule) c.drive_task-status.result c.drive_task-status.new.task.run.machine)
+    c.into_parts-files.ensures.files (c.drive_task-status.ensures.machine d c.into_parts-files.ensures.stands)
 
-pub returns-clause-answer : goal.returns-clause-answer
-returns-clause-answer g c = (ended g c).answered
-
-pub returns-clause-complete : goal.returns-clause-complete
-returns-clause-complete g c =
-    complete_of_answer c.args.p.files (g.H.Host.state c.args.host.now) (g.H.Host.state c.drive_run-status.new.host) (aim_in c.args.p (g.H.Host.state c.args.host.now)).verdict c.drive_run-status.result (ended g c).answered
-
-pub returns-clause-chip : goal.returns-clause-chip
-returns-clause-chip g c =
-    stands_of_parts (setup_in c.args.p) c.args.p.files (worded c.into_parts-files.result.0) (g.H.Host.state c.args.host.now) c.drive_run-status.new.task.run.chip c.into_chip.result c.drive_run-status.result
-    c.into_parts-files.ensures.files c.into_chip.ensures (c.drive_run-status.ensures.chip (setup_in c.args.p) c.into_parts-files.ensures.stands)
-
-pub returns-clause-stopped : goal.returns-clause-stopped
-returns-clause-stopped g c = λ stop. (ended g c).stopped stop
-
-pub returns-clause-fronts : goal.returns-clause-fronts
-returns-clause-fronts g c = (ended g c).fronts
+pub returns-clause-lawful : goal.returns-clause-lawful
+returns-clause-lawful g c = λ told ends.
+    let d = design_in c.args.p in
+    let h = g.H.Host.state c.args.host.now in
+    g.met.M.Machine.lawful d c.drive_task-status.new.task.run.machine (events_until c.drive_task-status.result d (bytes_of h c.args.p.files.schedule))
+    (subst (λ f. StandsAfter g.M.Machine d h (bytes_of h f.schedule) c.drive_task-status.result c.drive_task-status.new.task.run.machine)
+    c.into_parts-files.ensures.files (c.drive_task-status.ensures.machine d c.into_parts-files.ensures.stands) told ends)

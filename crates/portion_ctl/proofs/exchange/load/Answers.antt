@@ -1,4 +1,4 @@
-use Rattle.std.proofs.Common.{refl, sym, ap, ◌∙◌, None, Some}
+use Rattle.std.proofs.Common.{refl, sym, ap, None, Some}
 use Rattle.nda_cache.specs.declared.cache.Look.TheVariants.{Known, Missing, Full}
 use Rattle.bloom_sig.specs.Signatures.{Sets}
 use Rattle.portion_ctl.specs.Looks.{end_of_load}

@@ -1,5 +1,5 @@
 use Rattle.std.proofs.Common.{◌≡◌, ◌-◌}
-use Rattle.line_memory.specs.Backing.{IsBacking, dirty_from, dirty_in}
+use Rattle.line_memory.specs.Backing.{dirty_from, dirty_in}
 use Rattle.line_memory.specs.Notes.{all_noted}
 use Rattle.portion_ctl.specs.Walks.{all_flushed}
 use Rattle.portion_ctl.proofs.WalkFacts.{all_flush_notes}

@@ -1,22 +1,51 @@
-use Rattle.std.proofs.Common.{length, slice_get, Some, None, cond, ap, ◌∙◌, refl}
-use Rattle.std.proofs.lemmas.List.{length-replicate}
-use Rattle.std.proofs.lemmas.Bool.{lt-ltb}
-use Rattle.rv32_hart.specs.Code.{CodeView}
-use Rattle.offload_calls.specs.State.{start_core, start_hart}
-use Rattle.chip_core.proofs.ListFacts.{slice_get-replicate}
+use Rattle.std.proofs.Common.{◌∙◌, ap, subst, refl, Some}
+use Rattle.rv32_hart.specs.Code.{CodeView, IsCode}
+use Rattle.coherent_mem.specs.Steps.{unused}
+use Rattle.offload_calls.specs.State.{start_hart}
+use Rattle.chip_core.specs.Views.{ChipView}
+use Rattle.chip_core.proofs.StartFacts.{Made, made-fits, made-stands}
 use Rattle.chip_core.proofs.chip.Chip.new.Goals as goal
+use Rattle.chip_config.specs.Settings.{settings}
+use Rattle.chip_config.proofs.RangeFacts.{accepted}
+
+chip-of : goal.After-result-1 → ChipView
+chip-of c = record {
+  config = (settings c.args.config.now);
+  code = c.into_code-code.result;
+  memory = c.in_ok-memory.memory;
+  harts = c.in_ok-harts.harts.items;
+  statuses = c.in_ok-cores.cores.statuses.items;
+  portions = c.in_ok-cores.cores.portions.items;
+  lock = c.in_ok-cores.cores.lock;
+  log = c.in_ok-log.log;
+}
+
+made : (c : goal.After-result-1) → Made (settings c.args.config.now) c.args.image (chip-of c)
+unfolding chip-of
+made c =
+    let code_is = c.into_code-code.ensures in
+    record {
+      config = refl;
+      accepted = accepted c.args.config.now;
+      code = code_is;
+      is_code = subst IsCode code_is c.base-bytes.ensures.code;
+      base = c.requires.base;
+      bytes = c.requires.bytes;
+      memory = c.in_ok-memory.ensures.unused
+          ∙ ap (λ (x : CodeView). unused c.args.config.now.line_bytes c.args.config.now.harts c.args.config.now.hart_sets c.args.config.now.hart_ways x.base x.bytes) code_is;
+      coherent = c.in_ok-memory.ensures.kept;
+      many = c.in_ok-harts.ensures.many;
+      harts = λ h u. c.in_ok-harts.ensures.start h u ∙ ap (λ entry. Some (start_hart entry c.args.config.now.harts h)) c.entry-entry.ensures;
+      statuses = c.in_ok-cores.ensures.statuses;
+      portions = c.in_ok-cores.ensures.portions;
+      lock = c.in_ok-cores.ensures.lock;
+      log = c.in_ok-log.ensures;
+    }
+
+pub invariant_of-result : goal.invariant_of-result
+unfolding chip-of
+invariant_of-result c = made-fits (settings c.args.config.now) c.args.image (chip-of c) (made c)
 
 pub returns : goal.returns
-returns c =
-    let cores = c.args.config.now.cores in
-    record {
-      code = c.into_code-code.ensures;
-      line_bytes = refl;
-      memory = c.in_ok-memory.ensures.items ∙ c.bytes.ensures.value ∙ ap (λ (code : CodeView). code.bytes) c.into_code-code.ensures;
-      many_harts = c.in_ok-harts.ensures.many;
-      many_cores = ap length c.in_ok-cores.ensures.statuses ∙ length-replicate cores start_core.status;
-      harts = λ h within. c.in_ok-harts.ensures.start h within ∙ ap (λ entry. Some (start_hart entry c.args.config.now.harts h)) c.entry-entry.ensures;
-      statuses = λ j. ap (λ xs. slice_get xs j) c.in_ok-cores.ensures.statuses ∙ slice_get-replicate cores j start_core.status;
-      registers = λ j within. ap (λ xs. slice_get xs j) c.in_ok-cores.ensures.registers
-          ∙ slice_get-replicate cores j start_core.regs ∙ ap (λ b. cond b (Some start_core.regs) None) (lt-ltb j cores within);
-    }
+unfolding chip-of
+returns c = made-stands (settings c.args.config.now) c.args.image (chip-of c) (made c)

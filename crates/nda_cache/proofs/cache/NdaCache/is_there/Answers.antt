@@ -1,4 +1,4 @@
-use Rattle.std.proofs.Common.{◌≡◌, sym, ap, ◌∙◌, refl, true}
+use Rattle.std.proofs.Common.{◌≡◌, sym, ap, ◌∙◌, refl}
 use Rattle.std.specs.Option.{is_some}
 use Rattle.set_assoc.specs.Entries.{lookup}
 use Rattle.nda_cache.specs.Index.{find}

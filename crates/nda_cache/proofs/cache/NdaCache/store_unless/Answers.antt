@@ -1,4 +1,4 @@
-use Rattle.std.proofs.Common.{◌≡◌, ℕ, IsTrue, true, false, refl, ap, sym, subst, ◌∙◌, rules}
+use Rattle.std.proofs.Common.{◌≡◌, ℕ, IsTrue, refl, ap, subst, ◌∙◌, rules}
 use Rattle.conda_base.specs.Lines.{line_number, line_offset}
 use Rattle.conda_base.specs.declared.Line.{Line}
 use Rattle.nda_cache.specs.Tried.{Tried, HasRoom, Writes, line_at}

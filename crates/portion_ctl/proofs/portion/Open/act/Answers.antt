@@ -1,4 +1,4 @@
-use Rattle.std.proofs.Common.{ap, subst, ◌∙◌, sym, refl}
+use Rattle.std.proofs.Common.{ap, subst, ◌∙◌, sym}
 use Rattle.portion_ctl.specs.declared.body.Body.{Body}
 use Rattle.portion_ctl.specs.States.{IsSameTry}
 use Rattle.portion_ctl.specs.Bodies.{HasParts, opened_of}

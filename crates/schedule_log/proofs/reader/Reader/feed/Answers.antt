@@ -5,7 +5,7 @@ use Rattle.std.proofs.Math.Seq.{take-length}
 use Rattle.schedule_log.specs.Findings.{answer_at, finds, feeds_in, Feeds, Progress}
 use Rattle.schedule_log.specs.declared.fed.Fed.TheVariants as Fed_is
 use Rattle.schedule_log.proofs.AnswerLemmas.{tells_bad, wants_more}
-use Rattle.schedule_log.proofs.WalkLemmas.{feeds_in_taken, walks_on, walks_events, walks_bad, answer_events, answer_bad, answer_more, bad_ended, bad_line_at, events_end}
+use Rattle.schedule_log.proofs.WalkLemmas.{feeds_in_taken, walks_on, walks_events, walks_bad, answer_events, answer_bad, answer_more, bad_ended, bad_line_at, events_end, shows_none}
 use Rattle.schedule_log.proofs.reader.Reader.feed.Goals as goal
 
 pub returns-in-Some-clause-feeds : goal.returns-in-Some-clause-feeds
@@ -39,7 +39,12 @@ pub returns-in-Events-clause-used : goal.returns-in-Events-clause-used
 returns-in-Events-clause-used c =
     let feed : get_or c.args.piece.now c.loop-index.index 0 ≡ 10 = events_end c.loop-index.self _ c.in-Events.actor c.in-Events.count (sym c.take.ensures.said ∙ c.in-Events.is) in
     let place : c.loop-index.index + 1 - 1 ≡ c.loop-index.index = omega arith in
-    (rw place (slice_get-get_or c.args.piece.now c.loop-index.index 0 c.loop-index-test.true ∙ ap Some feed), omega arith, omega arith)
+    let walks = c.loop-index.invariant in (
+      rw place (slice_get-get_or c.args.piece.now c.loop-index.index 0 c.loop-index-test.true ∙ ap Some feed),
+      omega arith,
+      omega arith,
+      rw place (shows_none c.args.self.now c.loop-index.self (take c.loop-index.index c.args.piece.now) walks.feeds walks.good walks.begun),
+    )
 
 pub returns-in-Events-clause-ended : goal.returns-in-Events-clause-ended
 returns-in-Events-clause-ended c = λ _.

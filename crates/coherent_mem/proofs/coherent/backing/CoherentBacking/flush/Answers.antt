@@ -1,4 +1,7 @@
-use Rattle.std.proofs.Common.{◌<◌, List, length, ap, sym, subst, ◌∙◌, rules}
+use Rattle.std.specs.Prelude.{option_copied}
+use Rattle.conda_base.specs.Bytes.{handed_out}
+use Rattle.coherent_mem.specs.Moves.{backed, backed_notes}
+use Rattle.std.proofs.Common.{◌≡◌, Some, ◌<◌, List, length, ap, sym, subst, ◌∙◌, rules}
 use Rattle.std.proofs.lemmas.List.{length-set}
 use Rattle.traffic_trace.specs.declared.note.Note.{Note}
 use Rattle.line_memory.specs.Memory.{Memory}
@@ -14,7 +17,7 @@ use Rattle.coherent_mem.proofs.MarkFacts.{marked_flushed}
 use Rattle.coherent_mem.proofs.PartFacts.{row_in}
 use Rattle.coherent_mem.proofs.ViewFacts.{held_inside}
 use Rattle.coherent_mem.proofs.CoherentFacts.{coherent}
-use Rattle.coherent_mem.proofs.FlushFacts.{IsDirtyAt, dirty_at, dirty_owner, can_clean, flushing}
+use Rattle.coherent_mem.proofs.FlushFacts.{back_of, IsDirtyAt, dirty_at, dirty_owner, can_clean, flushing}
 use Rattle.coherent_mem.proofs.PartFacts.{fields}
 use Rattle.coherent_mem.proofs.coherent.backing.CoherentBacking.flush.Goals as goal
 
@@ -24,6 +27,14 @@ row-requires c =
     let dirty : IsDirty (shown p) c.args.l = rw (← c.self.view_is) at c.requires in
     row_in p c.self.invariant.1 c.args.l (dirty_at p c.args.l c.self.invariant.1 dirty).1.inside
 
+pub index-requires : goal.index-requires
+index-requires c =
+    let p : Parts = fields c.self.view_is in
+    let dirty : IsDirty (shown p) c.args.l = rw (← c.self.view_is) at c.requires in
+    let owner : IsDirtyAt p c.args.l c.in-Owner.o = dirty_owner p c.args.l c.in-Owner.o c.self.invariant.1 dirty (sym c.row.ensures.value ∙ c.in-Owner.is) in
+    let inside : c.in-Owner.o < length c.self.inside.caches.items = held_inside p c.args.l c.in-Owner.o owner.content owner.held in
+    search rules
+
 pub index_mut-requires : goal.index_mut-requires
 index_mut-requires c =
     let p : Parts = fields c.self.view_is in
@@ -32,15 +43,15 @@ index_mut-requires c =
     let inside : c.in-Owner.o < length c.self.inside.caches.items = held_inside p c.args.l c.in-Owner.o owner.content owner.held in
     search rules
 
-pub clean-bytes-requires : goal.clean-bytes-requires
-clean-bytes-requires c =
+pub clean-requires : goal.clean-requires
+clean-requires c =
     let p : Parts = fields c.self.view_is in
     let dirty : IsDirty (shown p) c.args.l = rw (← c.self.view_is) at c.requires in
     let owner : IsDirtyAt p c.args.l c.in-Owner.o = dirty_owner p c.args.l c.in-Owner.o c.self.invariant.1 dirty (sym c.row.ensures.value ∙ c.in-Owner.is) in
     can_clean p c.in-Owner.o c.args.l c.index_mut.result.now c.self.invariant.1 owner c.index_mut.ensures.value
 
-pub write-requires : goal.write-requires
-write-requires c =
+pub write_back-requires : goal.write_back-requires
+write_back-requires c =
     let p : Parts = fields c.self.view_is in
     let dirty : IsDirty (shown p) c.args.l = rw (← c.self.view_is) at c.requires in
     let owner : IsDirtyAt p c.args.l c.in-Owner.o = dirty_owner p c.args.l c.in-Owner.o c.self.invariant.1 dirty (sym c.row.ensures.value ∙ c.in-Owner.is) in
@@ -51,20 +62,22 @@ invariant_of-self c =
     let p : Parts = fields c.self.view_is in
     let dirty : IsDirty (shown p) c.args.l = rw (← c.self.view_is) at c.requires in
     let owner : IsDirtyAt p c.args.l c.in-Owner.o = dirty_owner p c.args.l c.in-Owner.o c.self.invariant.1 dirty (sym c.row.ensures.value ∙ c.in-Owner.is) in
-    let all = flushing p c.in-Owner.o c.args.l c.index_mut.result.now c.clean-bytes.new.self c.clean-bytes.result c.write.new.self c.self.invariant.1 owner c.index_mut.ensures.value c.clean-bytes.ensures.bytes c.clean-bytes.ensures.exclusive c.write.ensures in
-    (c.self.invariant.0 ∙ sym (ap (λ (m : Memory). m.line_bytes) c.write.ensures), all.are, subst (λ (b : BackingView). AreMarked b c.self.inside.marks.items) (sym all.flushed) (marked_flushed (shown p) c.args.l c.self.inside.marks.items c.self.invariant.2))
+    let handed : option_copied c.modified_bytes-bytes.result ≡ Some (handed_out owner.content.bytes) = back_of p c.in-Owner.o c.args.l c.index.result.now _ c.self.invariant.1 owner c.index.ensures c.modified_bytes-bytes.ensures.bytes in
+    let all = flushing p c.in-Owner.o c.args.l c.index_mut.result.now c.clean.new.self (option_copied c.modified_bytes-bytes.result) c.write_back.new.memory c.self.invariant.1 owner c.index_mut.ensures.value handed c.clean.ensures.exclusive c.write_back.ensures.memory in
+    (c.self.invariant.0 ∙ sym (ap (λ (m : Memory). m.line_bytes) (c.write_back.ensures.memory ∙ ap (λ b. backed p.memory c.args.l b) handed)), all.are, subst (λ (b : BackingView). AreMarked b c.self.inside.marks.items) (sym all.flushed) (marked_flushed (shown p) c.args.l c.self.inside.marks.items c.self.invariant.2))
 
 pub returns-in-Owner : goal.returns-in-Owner
 returns-in-Owner c =
     let p : Parts = fields c.self.view_is in
     let dirty : IsDirty (shown p) c.args.l = rw (← c.self.view_is) at c.requires in
     let owner : IsDirtyAt p c.args.l c.in-Owner.o = dirty_owner p c.args.l c.in-Owner.o c.self.invariant.1 dirty (sym c.row.ensures.value ∙ c.in-Owner.is) in
-    let all = flushing p c.in-Owner.o c.args.l c.index_mut.result.now c.clean-bytes.new.self c.clean-bytes.result c.write.new.self c.self.invariant.1 owner c.index_mut.ensures.value c.clean-bytes.ensures.bytes c.clean-bytes.ensures.exclusive c.write.ensures in
+    let handed : option_copied c.modified_bytes-bytes.result ≡ Some (handed_out owner.content.bytes) = back_of p c.in-Owner.o c.args.l c.index.result.now _ c.self.invariant.1 owner c.index.ensures c.modified_bytes-bytes.ensures.bytes in
+    let all = flushing p c.in-Owner.o c.args.l c.index_mut.result.now c.clean.new.self (option_copied c.modified_bytes-bytes.result) c.write_back.new.memory c.self.invariant.1 owner c.index_mut.ensures.value handed c.clean.ensures.exclusive c.write_back.ensures.memory in
     record {
       flushed = rw (c.settle.ensures, ← c.self.view_is) all.flushed;
       steps = rw (c.settle.ensures, ← c.self.view_is) (subst (λ (b : BackingView). StepsTo (after_flush (shown p).tags c.args.l) (shown p).view (shown p) b) (sym all.flushed)
           (flushed_steps (shown p) c.args.l (coherent p c.self.invariant.1).backing (subst (λ (b : BackingView). IsBacking b) all.flushed (coherent _ all.are).backing) (range_of p c.self.invariant.1 c.args.l owner.inside)));
-      notes = rw (← c.self.view_is) (c.note.ensures ∙ sym (ap (λ (ns : List Note). all_noted c.args.log.now ns) all.notes));
+      notes = rw (← c.self.view_is) (c.write_back.ensures.notes ∙ ap (λ b. all_noted c.args.log.now (backed_notes c.in-Owner.o c.args.l b)) handed ∙ sym (ap (λ (ns : List Note). all_noted c.args.log.now ns) all.notes));
       kept = rw c.settle.ensures (coherent _ all.are);
     }
 
@@ -81,4 +94,4 @@ settle-requires c =
     let dirty : IsDirty (shown p) c.args.l = rw (← c.self.view_is) at c.requires in
     let owner : IsDirtyAt p c.args.l c.in-Owner.o = dirty_owner p c.args.l c.in-Owner.o c.self.invariant.1 dirty (sym c.row.ensures.value ∙ c.in-Owner.is) in
     let inside : c.in-Owner.o < length c.self.inside.caches.items = held_inside p c.args.l c.in-Owner.o owner.content owner.held in
-    rw (length-set p.caches c.in-Owner.o c.clean-bytes.new.self) inside
+    rw (length-set p.caches c.in-Owner.o c.clean.new.self) inside

@@ -1,6 +1,0 @@
-pub mod Frames
-pub mod Going
-pub mod Ready
-pub mod Running
-pub mod Texts
-pub mod WriterView

@@ -1,0 +1,17 @@
+use Rattle.conda_host.specs.declared.outside.Role.TheVariants as role
+use Rattle.conda_engine.specs.Disassembling.{text_said}
+use Rattle.conda_engine.specs.Verdict.{image_limit}
+use Rattle.conda_engine.proofs.MakingFacts.{made_answers, refused_answers}
+use Rattle.conda_engine.proofs.disassembling.dis.Goals as goal
+
+pub returns-in-Ok-clause-answers : goal.returns-in-Ok-clause-answers
+returns-in-Ok-clause-answers g c =
+    made_answers text_said (g.H.Host.state c.args.host.now) (g.H.Host.state c.read_text.new.host) (g.H.Host.state c.write_file.new.host) role.Program role.Source image_limit
+    c.args.files.now.program.now c.args.files.now.source.now c.in-Ok.text.items c.write_file.result
+    c.in-Ok.ensures.ok c.in-Ok.ensures.rest (rw c.deref.ensures.value at c.write_file.ensures.answers)
+
+pub returns-in-Err-clause-answers : goal.returns-in-Err-clause-answers
+returns-in-Err-clause-answers g c =
+    refused_answers text_said (g.H.Host.state c.args.host.now) (g.H.Host.state c.read_text.new.host) role.Program role.Source image_limit
+    c.args.files.now.program.now c.args.files.now.source.now c.in-Err.status
+    c.in-Err.ensures.err c.in-Err.ensures.rest

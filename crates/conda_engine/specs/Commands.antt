@@ -1,0 +1,41 @@
+-- The rows of all commands.
+use Rattle.std.specs.Prelude.{◌≡◌, List, Option, map, string_bytes}
+use Rattle.std.specs.declared.alloc.Global.{Global}
+use Rattle.std.specs.declared.string.String.{String}
+use Rattle.conda_host.specs.State.{HostState}
+use Rattle.chip_laws.specs.Lawful.{AreLawful}
+use Rattle.command_run.specs.Driving.{bytes_of}
+use Rattle.command_words.specs.Words.{Asked, Run, SelfRun, Asm, Dis, asked}
+use Rattle.self_workload.specs.Workload.{events_of_seed}
+use Rattle.self_run.specs.Designs.{design_of_seed}
+use Rattle.conda_engine.specs.declared.status.Status.{Status}
+use Rattle.conda_engine.specs.declared.status.Status.TheVariants as status
+use Rattle.conda_engine.specs.Answers.{Answers}
+use Rattle.conda_engine.specs.Assembling.{AsmAnswers}
+use Rattle.conda_engine.specs.Disassembling.{dis_command, dis_outcome}
+use Rattle.conda_engine.specs.Headline.{HasHeadlineAtDone}
+use Rattle.conda_engine.specs.Rows.{run_command, run_outcome}
+use Rattle.conda_engine.specs.SelfRun.{self_command, self_outcome}
+use Rattle.conda_engine.specs.Verdict.{chip_account}
+
+-- what the words ask for, if they are the words of a command
+abbrev pub asked_of : List (String Global) → Option Asked
+asked_of words = asked (map string_bytes words)
+
+-- what a command answers and leaves, by what the bytes of its files lead to
+abbrev pub AnswersAsked : HostState → HostState → Status → Asked → Type 0
+AnswersAsked old new answer (Run files) =
+    Answers (run_command files) (run_outcome chip_account files old) old new answer
+AnswersAsked old new answer (Asm files) = AsmAnswers files old new answer
+AnswersAsked old new answer (Dis files) =
+    Answers (dis_command files) (dis_outcome (bytes_of old files.program)) old new answer
+AnswersAsked old new answer (SelfRun seed events report) =
+    Answers (self_command report) (self_outcome chip_account seed events) old new answer
+
+-- what holds at Done besides: a run has the headline, and the events of a generated workload are
+-- lawful
+abbrev pub HoldsAtDone : HostState → HostState → Status → Asked → Type 0
+HoldsAtDone old new answer (Run files) = HasHeadlineAtDone files old new answer
+HoldsAtDone old new answer (SelfRun seed events report) =
+    answer ≡ status.Done → AreLawful (design_of_seed seed) (events_of_seed seed events)
+HoldsAtDone old new answer other = Unit {0}

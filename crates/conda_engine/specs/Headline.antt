@@ -1,0 +1,31 @@
+-- The headline: what a run that is done leaves, and what holds of its events.
+use Rattle.std.specs.Prelude.{◌≡◌, List, IsTrue}
+use Rattle.conda_base.specs.declared.actor.Actor.{Actor}
+use Rattle.conda_host.specs.State.{HostState}
+use Rattle.chip_laws.specs.Design.{Design}
+use Rattle.chip_laws.specs.Lawful.{AreLawful}
+use Rattle.command_run.specs.Driving.{bytes_of}
+use Rattle.command_words.specs.Words.{Files}
+use Rattle.conda_engine.specs.declared.status.Status.{Status}
+use Rattle.conda_engine.specs.declared.status.Status.TheVariants as status
+use Rattle.conda_engine.specs.Leaves.{IsDone}
+use Rattle.conda_engine.specs.Verdict.{all_events, chip_account, design_said, texts_of_events}
+
+-- what the files of configuration and image say
+abbrev pub design_of_files : Files → HostState → Design
+design_of_files files s = design_said (bytes_of s files.config) (bytes_of s files.image)
+
+-- all events of the schedule's file
+abbrev pub events_of_files : Files → HostState → List Actor
+events_of_files files s = all_events (design_of_files files s) (bytes_of s files.schedule)
+
+-- Order, report and output are the texts of all events of the schedule, by one flat memory that
+-- executes the written order; and these events are lawful.
+pub record HasHeadline (files : Files) (old new : HostState) : Type 0 where
+  pub texts : IsDone files old new
+      (texts_of_events chip_account (design_of_files files old) (events_of_files files old))
+  pub lawful : AreLawful (design_of_files files old) (events_of_files files old)
+
+abbrev pub HasHeadlineAtDone : Files → HostState → HostState → Status → Type 0
+HasHeadlineAtDone files old new answer =
+    IsTrue old.tells → answer ≡ status.Done → HasHeadline files old new

@@ -1,0 +1,77 @@
+// The command that runs a generated workload.
+ghost use Rattle.std.specs.Prelude.{◌≡◌, ◌≤◌, ℕ, IfOk, IsOk};
+ghost use Rattle.chip_laws.specs.Lawful.{AreLawful};
+ghost use Rattle.run_report.specs.Texts.{report_text};
+ghost use Rattle.schedule_log.specs.Verdict.{most_events};
+ghost use Rattle.self_run.specs.Designs.{design_of_seed};
+ghost use Rattle.self_run.specs.Generated.{HasRunFirst};
+ghost use Rattle.self_workload.specs.Workload.{events_of_seed};
+ghost use Rattle.conda_engine.specs.Answers.{Answers};
+ghost use Rattle.conda_engine.specs.Ends.{account_of};
+ghost use Rattle.conda_engine.specs.LastFile.{text_outcome};
+ghost use Rattle.conda_engine.specs.SelfRun.{IsSelfEnd, self_command, self_outcome};
+ghost use Rattle.conda_engine.specs.Verdict.{chip_account};
+
+use crate::Status;
+use chip_core::Chip;
+use command_run::write_report;
+use conda_host::{Host, Role};
+use machine_run::{Machine, Run, Simulator};
+use self_run::run_workload;
+use std::alloc::{AllocError, Global};
+
+// Writes the report of a run as the only file. It takes no memory.
+fn report_run<M: Simulator, H: Host>(run: &Run<M>, report: &str, host: &mut H) -> Status
+    ensures answers { Answers (self_command report.now) (text_outcome
+        (report_text (M.shown run.now.machine) run.now.events run.now.output_bytes))
+        (H.state host.old) (H.state host.new) result }
+    ensures end { IsSelfEnd result }
+{
+    match write_report(report, run, host) {
+        Ok(()) => Status::Done,
+        Err(_) => Status::WriteFault(Role::Report),
+    }
+}
+
+// Writes the report of the first events of a seed's workload, where there was memory for them.
+fn report_on<M: Simulator, H: Host>(
+    ran: Result<Run<M>, AllocError>,
+    report: &str,
+    host: &mut H,
+) -> Status
+    ensures answers { (seed count : ℕ) → IfOk ran (HasRunFirst ⟦<M as Machine>⟧ seed count)
+        → Answers (self_command report.now)
+        (self_outcome (account_of ⟦<M as Machine>⟧ M.report) seed count)
+        (H.state host.old) (H.state host.new) result }
+    ensures end { IsSelfEnd result }
+    ensures ok { result ≡ Status.Done → IsOk ran }
+{
+    match ran {
+        Ok(run) => report_run(&run, report, host),
+        Err(AllocError) => Status::OutOfMemory,
+    }
+}
+
+/// Runs the first events of a seed's workload, and writes their report as the only file. All memory
+/// is taken before the report is created.
+pub fn self_run<H: Host>(
+    alloc: Global,
+    seed: u64,
+    events: u32,
+    report: &str,
+    host: &mut H,
+) -> Status
+    requires { events ≤ most_events }
+
+    // The report is that of the first events of the seed, and no other file changes.
+    ensures answers { Answers (self_command report.now) (self_outcome chip_account seed events)
+        (H.state host.old) (H.state host.new) result }
+    ensures end { IsSelfEnd result }
+
+    // At Done the laws hold of these events.
+    ensures lawful { result ≡ Status.Done
+        → AreLawful (design_of_seed seed) (events_of_seed seed events) }
+{
+    let ran: Result<Run<Chip>, AllocError> = run_workload(alloc, seed, events);
+    report_on(ran, report, host)
+}

@@ -1,0 +1,5 @@
+pub mod Filing
+pub mod Going
+pub mod Running
+pub mod Tasks
+pub mod Turning

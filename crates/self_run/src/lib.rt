@@ -1,0 +1,10 @@
+//! Generated workloads are run: each event's actor is drawn when it is run.
+#![tactic(auto)]
+
+mod generated;
+mod loading;
+mod running;
+#[cfg(test)]
+mod tests;
+
+pub use running::run_workload;
