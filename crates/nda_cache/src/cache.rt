@@ -390,7 +390,7 @@ fn fill_line(entry: &mut (Line, Masked), copy: &[u8])
       },
     ) }
 {
-    entry.1.fill(copy);
+    entry.1.fill_from(copy);
 }
 
 // Stores a number into a line, and tells whether it is the first one.

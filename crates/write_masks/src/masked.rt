@@ -72,8 +72,18 @@ impl Masked {
         self.mask & run == run
     }
 
+    /// Takes the bytes that aren't marked from a copy of the line.
+    pub fn fill(&mut self, from: &[u8; 128])
+        requires { self.old.filled ≡ false }
+        ensures bytes { self.new.bytes ≡ mixed self.old.mask self.old.bytes from.now }
+        ensures mask { self.new.mask ≡ self.old.mask }
+        ensures filled { self.new.filled ≡ true }
+    {
+        self.fill_from(from);
+    }
+
     /// Takes the bytes that aren't marked from a copy of the line, as many as the copy has.
-    pub fn fill(&mut self, from: &[u8])
+    pub fn fill_from(&mut self, from: &[u8])
         requires unfilled { self.old.filled ≡ false }
         requires room { length from.now ≤ 128 }
         ensures bytes { self.new.bytes ≡ mixed self.old.mask self.old.bytes from.now }
