@@ -291,8 +291,45 @@ impl CpuCache {
         }
     }
 
+    /// Keeps a held line shared, at its place. Hands out its bytes where it was modified.
+    pub fn downgrade(&mut self, l: Line) -> Option<[u8; 128]>
+        requires { IsHeld self.old l }
+        ensures bytes { result ≡ written_back (content_of self.old l) }
+        ensures shared { self.new ≡ with_set self.old l (restated self.old l S) }
+        ensures kept { IsCache self.new }
+    {
+        let bytes = self.modified_bytes(l).copied();
+        self.keep_shared(l);
+        bytes
+    }
+
+    /// Drops a held line. Hands out its bytes where it was modified.
+    pub fn invalidate(&mut self, l: Line) -> Option<[u8; 128]>
+        requires { IsHeld self.old l }
+        ensures bytes { result ≡ written_back (content_of self.old l) }
+        ensures dropped { self.new ≡ with_set self.old l (without l (set_list self.old l)) }
+        ensures kept { IsCache self.new }
+    {
+        let bytes = self.modified_bytes(l).copied();
+        self.drop_line(l);
+        bytes
+    }
+
+    /// Keeps a modified line exclusive, at its place, and hands out its bytes.
+    pub fn clean(&mut self, l: Line) -> [u8; 128]
+        requires { state_of self.old l ≡ Some M }
+        ensures bytes { result ≡ handed_out (bytes_of self.old l) }
+        ensures exclusive { self.new ≡ with_set self.old l (restated self.old l E) }
+        ensures kept { IsCache self.new }
+    {
+        let mut bytes = [0; ROOM];
+        self.bytes(l, &mut bytes);
+        self.keep_exclusive(l);
+        bytes
+    }
+
     /// Keeps a held line shared, at its place.
-    pub fn downgrade(&mut self, l: Line)
+    pub fn keep_shared(&mut self, l: Line)
         requires { IsHeld self.old l }
         ensures shared { self.new ≡ with_set self.old l (restated self.old l S) }
         ensures kept { IsCache self.new }
@@ -302,7 +339,7 @@ impl CpuCache {
     }
 
     /// Drops a held line.
-    pub fn invalidate(&mut self, l: Line)
+    pub fn drop_line(&mut self, l: Line)
         requires { IsHeld self.old l }
         ensures dropped { self.new ≡ with_set self.old l (without l (set_list self.old l)) }
         ensures kept { IsCache self.new }
@@ -312,7 +349,7 @@ impl CpuCache {
     }
 
     /// Keeps a modified line exclusive, at its place.
-    pub fn clean(&mut self, l: Line)
+    pub fn keep_exclusive(&mut self, l: Line)
         requires { state_of self.old l ≡ Some M }
         ensures exclusive { self.new ≡ with_set self.old l (restated self.old l E) }
         ensures kept { IsCache self.new }
@@ -388,18 +425,30 @@ mod tests {
         fill_absent(&rt, &mut cache, 0, 7);
         assert!(rt; cache.state(Line(0)).is_some());
         cache.store(0, 1, 1);
+        assert_eq!(rt; cache.clean(Line(0))[0], 1);
+        assert!(rt; cache.downgrade(Line(0)).is_none());
+        let mut out = [1; 128];
+        cache.bytes(Line(0), &mut out);
+        assert_eq!(rt; out[63], 7);
+        assert!(rt; cache.invalidate(Line(0)).is_none());
+        assert!(rt; cache.state(Line(0)).is_none());
+        Ok(())
+    }
+
+    #[test]
+    fn a_modified_line_is_handed_out(rt: HostRuntime) -> Result<(), AllocError> {
+        let mut cache = CpuCache::new(rt.alloc(), 64, 1, 2)?;
+        fill_absent(&rt, &mut cache, 0, 7);
+        assert!(rt; cache.state(Line(0)).is_some());
+        cache.store(0, 1, 1);
         assert_eq!(rt;
             cache.modified_bytes(Line(0)).map(|bytes| bytes[0]),
             Some(1)
         );
-        cache.clean(Line(0));
-        assert!(rt; cache.modified_bytes(Line(0)).is_none());
-        cache.downgrade(Line(0));
-        let mut out = [1; 128];
-        cache.bytes(Line(0), &mut out);
-        assert_eq!(rt; out[63], 7);
-        cache.invalidate(Line(0));
-        assert!(rt; cache.state(Line(0)).is_none());
+        assert_eq!(rt;
+            cache.invalidate(Line(0)).map(|bytes| (bytes[0], bytes[64])),
+            Some((1, 0))
+        );
         Ok(())
     }
 

@@ -67,7 +67,7 @@ impl Backing for Coherent {
         if let Row::Owner(o) = self.directory.row(l) {
             let bytes = self.caches[o as usize].modified_bytes(l);
             write_back(&mut self.memory, o, l, bytes, log);
-            self.caches[o as usize].clean(l);
+            self.caches[o as usize].keep_exclusive(l);
             self.settle(o, l);
         }
     }

@@ -25,7 +25,7 @@ impl Coherent {
     {
         let bytes = self.caches[h as usize].modified_bytes(l);
         write_back(&mut self.memory, h, l, bytes, log);
-        self.caches[h as usize].invalidate(l);
+        self.caches[h as usize].drop_line(l);
         self.directory.leave(l, h);
         self.settle(h, l);
     }
@@ -40,7 +40,7 @@ impl Coherent {
     {
         let bytes = self.caches[o as usize].modified_bytes(l);
         write_back(&mut self.memory, o, l, bytes, log);
-        self.caches[o as usize].downgrade(l);
+        self.caches[o as usize].keep_shared(l);
         self.directory.share(l, o);
         log.note(Note {
             kind: Kind::Down,

@@ -8,8 +8,8 @@ use Rattle.coherent_mem.proofs.MoveFacts.{same_read, IsLeaving, can_leave, holde
 use Rattle.coherent_mem.proofs.PartFacts.{fields}
 use Rattle.coherent_mem.proofs.coherent.Coherent.leave.Goals as goal
 
-pub invalidate-requires : goal.invalidate-requires
-invalidate-requires c =
+pub drop_line-requires : goal.drop_line-requires
+drop_line-requires c =
     let p : Parts = fields c.self.view_is in
     (can_leave p c.args.h c.args.l c.index_mut.result.now c.self.invariant.1 (rw (← c.self.view_is) at c.requires) c.index_mut.ensures.value).held
 
@@ -35,16 +35,16 @@ index_mut-requires c =
 pub invariant_of-self : goal.invariant_of-self
 invariant_of-self c =
     let p : Parts = fields c.self.view_is in
-    let does : IsLeaving p c.args.h c.args.l c.index_mut.result.now (option_copied c.modified_bytes-bytes.result) c.invalidate.new.self c.write_back.new.memory c.leave.new.self =
-    record { read = c.index_mut.ensures.value; bytes = c.modified_bytes-bytes.ensures.bytes ∙ ap (λ (x : Contents). handed_back (content_of x c.args.l)) (same_read p c.args.h c.index.result.now c.index_mut.result.now (can_leave p c.args.h c.args.l c.index_mut.result.now c.self.invariant.1 (rw (← c.self.view_is) at c.requires) c.index_mut.ensures.value).holder c.index.ensures c.index_mut.ensures.value); dropped = c.invalidate.ensures.dropped; written = c.write_back.ensures.memory; rowed = c.leave.ensures.others } in
+    let does : IsLeaving p c.args.h c.args.l c.index_mut.result.now (option_copied c.modified_bytes-bytes.result) c.drop_line.new.self c.write_back.new.memory c.leave.new.self =
+    record { read = c.index_mut.ensures.value; bytes = c.modified_bytes-bytes.ensures.bytes ∙ ap (λ (x : Contents). handed_back (content_of x c.args.l)) (same_read p c.args.h c.index.result.now c.index_mut.result.now (can_leave p c.args.h c.args.l c.index_mut.result.now c.self.invariant.1 (rw (← c.self.view_is) at c.requires) c.index_mut.ensures.value).holder c.index.ensures c.index_mut.ensures.value); dropped = c.drop_line.ensures.dropped; written = c.write_back.ensures.memory; rowed = c.leave.ensures.others } in
     let all = leaving _ _ _ _ _ _ _ _ c.self.invariant.1 (rw (← c.self.view_is) at c.requires) does in
     (c.self.invariant.0 ∙ sym all.edits.numbers.line_bytes, all.are, marked_same (shown p) _ _ all.edits.numbers all.quiet.dirty c.self.invariant.2)
 
 pub returns : goal.returns
 returns c =
     let p : Parts = fields c.self.view_is in
-    let does : IsLeaving p c.args.h c.args.l c.index_mut.result.now (option_copied c.modified_bytes-bytes.result) c.invalidate.new.self c.write_back.new.memory c.leave.new.self =
-    record { read = c.index_mut.ensures.value; bytes = c.modified_bytes-bytes.ensures.bytes ∙ ap (λ (x : Contents). handed_back (content_of x c.args.l)) (same_read p c.args.h c.index.result.now c.index_mut.result.now (can_leave p c.args.h c.args.l c.index_mut.result.now c.self.invariant.1 (rw (← c.self.view_is) at c.requires) c.index_mut.ensures.value).holder c.index.ensures c.index_mut.ensures.value); dropped = c.invalidate.ensures.dropped; written = c.write_back.ensures.memory; rowed = c.leave.ensures.others } in
+    let does : IsLeaving p c.args.h c.args.l c.index_mut.result.now (option_copied c.modified_bytes-bytes.result) c.drop_line.new.self c.write_back.new.memory c.leave.new.self =
+    record { read = c.index_mut.ensures.value; bytes = c.modified_bytes-bytes.ensures.bytes ∙ ap (λ (x : Contents). handed_back (content_of x c.args.l)) (same_read p c.args.h c.index.result.now c.index_mut.result.now (can_leave p c.args.h c.args.l c.index_mut.result.now c.self.invariant.1 (rw (← c.self.view_is) at c.requires) c.index_mut.ensures.value).holder c.index.ensures c.index_mut.ensures.value); dropped = c.drop_line.ensures.dropped; written = c.write_back.ensures.memory; rowed = c.leave.ensures.others } in
     record {
       moved = rw (c.settle.ensures, ← c.self.view_is) (leaving _ _ _ _ _ _ _ _ c.self.invariant.1 (rw (← c.self.view_is) at c.requires) does);
       notes = rw (← c.self.view_is)

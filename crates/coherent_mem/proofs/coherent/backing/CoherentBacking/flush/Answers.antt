@@ -43,8 +43,8 @@ index_mut-requires c =
     let inside : c.in-Owner.o < length c.self.inside.caches.items = held_inside p c.args.l c.in-Owner.o owner.content owner.held in
     search rules
 
-pub clean-requires : goal.clean-requires
-clean-requires c =
+pub keep_exclusive-requires : goal.keep_exclusive-requires
+keep_exclusive-requires c =
     let p : Parts = fields c.self.view_is in
     let dirty : IsDirty (shown p) c.args.l = rw (← c.self.view_is) at c.requires in
     let owner : IsDirtyAt p c.args.l c.in-Owner.o = dirty_owner p c.args.l c.in-Owner.o c.self.invariant.1 dirty (sym c.row.ensures.value ∙ c.in-Owner.is) in
@@ -63,7 +63,7 @@ invariant_of-self c =
     let dirty : IsDirty (shown p) c.args.l = rw (← c.self.view_is) at c.requires in
     let owner : IsDirtyAt p c.args.l c.in-Owner.o = dirty_owner p c.args.l c.in-Owner.o c.self.invariant.1 dirty (sym c.row.ensures.value ∙ c.in-Owner.is) in
     let handed : option_copied c.modified_bytes-bytes.result ≡ Some (handed_out owner.content.bytes) = back_of p c.in-Owner.o c.args.l c.index.result.now _ c.self.invariant.1 owner c.index.ensures c.modified_bytes-bytes.ensures.bytes in
-    let all = flushing p c.in-Owner.o c.args.l c.index_mut.result.now c.clean.new.self (option_copied c.modified_bytes-bytes.result) c.write_back.new.memory c.self.invariant.1 owner c.index_mut.ensures.value handed c.clean.ensures.exclusive c.write_back.ensures.memory in
+    let all = flushing p c.in-Owner.o c.args.l c.index_mut.result.now c.keep_exclusive.new.self (option_copied c.modified_bytes-bytes.result) c.write_back.new.memory c.self.invariant.1 owner c.index_mut.ensures.value handed c.keep_exclusive.ensures.exclusive c.write_back.ensures.memory in
     (c.self.invariant.0 ∙ sym (ap (λ (m : Memory). m.line_bytes) (c.write_back.ensures.memory ∙ ap (λ b. backed p.memory c.args.l b) handed)), all.are, subst (λ (b : BackingView). AreMarked b c.self.inside.marks.items) (sym all.flushed) (marked_flushed (shown p) c.args.l c.self.inside.marks.items c.self.invariant.2))
 
 pub returns-in-Owner : goal.returns-in-Owner
@@ -72,7 +72,7 @@ returns-in-Owner c =
     let dirty : IsDirty (shown p) c.args.l = rw (← c.self.view_is) at c.requires in
     let owner : IsDirtyAt p c.args.l c.in-Owner.o = dirty_owner p c.args.l c.in-Owner.o c.self.invariant.1 dirty (sym c.row.ensures.value ∙ c.in-Owner.is) in
     let handed : option_copied c.modified_bytes-bytes.result ≡ Some (handed_out owner.content.bytes) = back_of p c.in-Owner.o c.args.l c.index.result.now _ c.self.invariant.1 owner c.index.ensures c.modified_bytes-bytes.ensures.bytes in
-    let all = flushing p c.in-Owner.o c.args.l c.index_mut.result.now c.clean.new.self (option_copied c.modified_bytes-bytes.result) c.write_back.new.memory c.self.invariant.1 owner c.index_mut.ensures.value handed c.clean.ensures.exclusive c.write_back.ensures.memory in
+    let all = flushing p c.in-Owner.o c.args.l c.index_mut.result.now c.keep_exclusive.new.self (option_copied c.modified_bytes-bytes.result) c.write_back.new.memory c.self.invariant.1 owner c.index_mut.ensures.value handed c.keep_exclusive.ensures.exclusive c.write_back.ensures.memory in
     record {
       flushed = rw (c.settle.ensures, ← c.self.view_is) all.flushed;
       steps = rw (c.settle.ensures, ← c.self.view_is) (subst (λ (b : BackingView). StepsTo (after_flush (shown p).tags c.args.l) (shown p).view (shown p) b) (sym all.flushed)
@@ -94,4 +94,4 @@ settle-requires c =
     let dirty : IsDirty (shown p) c.args.l = rw (← c.self.view_is) at c.requires in
     let owner : IsDirtyAt p c.args.l c.in-Owner.o = dirty_owner p c.args.l c.in-Owner.o c.self.invariant.1 dirty (sym c.row.ensures.value ∙ c.in-Owner.is) in
     let inside : c.in-Owner.o < length c.self.inside.caches.items = held_inside p c.args.l c.in-Owner.o owner.content owner.held in
-    rw (length-set p.caches c.in-Owner.o c.clean.new.self) inside
+    rw (length-set p.caches c.in-Owner.o c.keep_exclusive.new.self) inside
