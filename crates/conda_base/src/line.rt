@@ -11,7 +11,13 @@ pub fn line_of(addr: u32, line_bytes: u32) -> Line
     requires { IsLineSize line_bytes }
     ensures { result.0 ≡ line_number addr line_bytes }
 {
-    Line(addr / line_bytes)
+    // Each size stands alone, so that none of them costs a division.
+    let line = match line_bytes {
+        32 => addr / 32,
+        64 => addr / 64,
+        _ => addr / 128,
+    };
+    Line(line)
 }
 
 /// The place of an address in its line, in bytes.
@@ -20,7 +26,12 @@ pub fn offset_of(addr: u32, line_bytes: u32) -> usize
     ensures place { result ≡ line_offset addr line_bytes }
     ensures within { result < line_bytes }
 {
-    (addr % line_bytes) as usize
+    let place = match line_bytes {
+        32 => addr % 32,
+        64 => addr % 64,
+        _ => addr % 128,
+    };
+    place as usize
 }
 
 #[cfg(test)]
