@@ -11,7 +11,6 @@ use Rattle.conda_base.specs.declared.Mesi.{Mesi}
 use Rattle.conda_base.specs.declared.Mesi.TheVariants.{M, E, S}
 use Rattle.conda_base.specs.Bytes.{bytes_of_line}
 use Rattle.cpu_cache.specs.Contents.{Content, Contents, empty, state_of, tags_of}
-use Rattle.cpu_cache.proofs.EntryFacts.{same_line}
 use Rattle.mesi_directory.specs.Rows.{row_of}
 use Rattle.traffic_trace.specs.Notes.{Trace, noted}
 use Rattle.traffic_trace.specs.declared.note.Note.{Note}
@@ -39,6 +38,7 @@ use Rattle.coherent_mem.proofs.MissFacts.{cut, IsRoomy, room_states, no_content,
 use Rattle.coherent_mem.proofs.HitFacts.{front_whole}
 use Rattle.coherent_mem.proofs.PutFacts.{IsPut}
 use Rattle.coherent_mem.proofs.MoveFacts.{state_held, read_cache}
+use Rattle.conda_base.proofs.LineLemmas.{line_by_number}
 
 same_numbers : (p : Parts) → HasSameNumbers (shown p) (shown p)
 same_numbers p = record { line_bytes = refl; base = refl; holders = refl; sets = refl; ways = refl; size = refl }
@@ -256,7 +256,7 @@ alone_copies p u t h l bytes are inside there alone put a within =
     rw (dirty, stays) (memory a ∙ alone.quiet.copies a k in_u) in
     ⊎_elim
     (λ (same : a.0 ≡ l.0).
-    let line : a ≡ l = same_line a l same in
+    let line : a ≡ l = line_by_number a l same in
     let now : held_state (shape_of (shown t)) (shown t).tags h l ≡ Some M = state_held t put.are l h _ (held_here u t h l _ inside_u put.edit) in
     let dirty : is_dirty (shape_of (shown t)) (shown t).tags l ≡ true = some_found (length t.caches) h (λ k. is_in_m (held_state (shape_of (shown t)) (shown t).tags k l)) inside_t (ap is_in_m now) in
     let none : (k : ℕ) → k ≢ h → held_state (shape_of (shown t)) (shown t).tags k l ≡ None =

@@ -6,15 +6,14 @@ use Rattle.std.proofs.lemmas.Bool.{cases_Bool, cases_eq, eqb-true, eq-eqb}
 use Rattle.conda_base.specs.declared.Line.{Line}
 use Rattle.conda_base.specs.declared.Mesi.{Mesi}
 use Rattle.set_assoc.specs.Entries.{lookup, without, replaced}
-use Rattle.set_assoc.specs.SetLists.{SetLists, set_of, list_of, with_list}
+use Rattle.set_assoc.specs.SetLists.{SetLists, set_of, list_of, with_list, find, IsSets, taken_out}
 use Rattle.set_assoc.proofs.EntryLemmas.{lookup-without_same}
 use Rattle.set_assoc.proofs.SetLemmas.{lookup-replaced_same}
-use Rattle.cpu_cache.specs.Find.{find, IsSets, taken_out}
 use Rattle.cpu_cache.specs.Contents.{Content, Contents, IsCache, content_of, bytes_of, content_bytes, set_list, with_set, in_front, filled, restated}
-use Rattle.cpu_cache.proofs.EntryFacts.{same_line}
-use Rattle.cpu_cache.proofs.FindFacts.{list_entries, list_of-other, list_of-same, IsSets-taken_out, IsSets-put, IsSets-replaced}
+use Rattle.set_assoc.proofs.FindFacts.{list_entries, list_of-other, list_of-same, IsSets-taken_out, IsSets-put, IsSets-replaced}
 use Rattle.cpu_cache.proofs.ViewFacts.{with_list_twice}
 use Rattle.cpu_cache.proofs.StoreFacts.{room_after}
+use Rattle.conda_base.proofs.LineLemmas.{line_by_number}
 
 pub test_off : (a b : ℕ) → a ≢ b → eqb a b ≡ false
 test_off a b apart = ⊎_elim (λ on. absurd (apart (eqb-true a b on))) (λ off. off) (cases_Bool (eqb a b))
@@ -88,7 +87,7 @@ edit c l x entries is sets fits here others =
         size = is.size;
         sets = sets;
         bytes = λ a. ⊎_elim
-            (λ (same : a.0 ≡ l.0). rw (ap (λ k. content_of (with_set c l entries) k) (same_line a l same) ∙ new) fits)
+            (λ (same : a.0 ≡ l.0). rw (ap (λ k. content_of (with_set c l entries) k) (line_by_number a l same) ∙ new) fits)
             (λ (apart : a.0 ≢ l.0). rw (rest a apart) (is.bytes a))
             (cases_eq a.0 l.0);
       };

@@ -11,7 +11,6 @@ use Rattle.conda_base.specs.declared.Line.{Line}
 use Rattle.conda_base.specs.declared.Mesi.TheVariants.{M}
 use Rattle.set_assoc.specs.Entries.{lookup, AreEntries}
 use Rattle.cpu_cache.specs.Contents.{Content, Contents, IsHeld, content_of, tag_of, bytes_of, content_bytes, empty, tags_of}
-use Rattle.cpu_cache.proofs.EntryFacts.{same_line}
 use Rattle.mesi_directory.specs.declared.row.Row.TheVariants.{Owner}
 use Rattle.mesi_directory.specs.Rows.{row_of, has}
 use Rattle.line_memory.specs.Owners.{is_owner}
@@ -32,6 +31,7 @@ use Rattle.coherent_mem.proofs.MoveFacts.{read_cache, seen_content}
 use Rattle.coherent_mem.proofs.DownFacts.{owner_held}
 use Rattle.coherent_mem.proofs.RoomFacts.{listed, listed_state}
 use Rattle.coherent_mem.proofs.CopyFacts.{clean_copy, range_in, range_of, state_inside}
+use Rattle.conda_base.proofs.LineLemmas.{line_by_number}
 
 small_mod : (s n : ℕ) → s < n → s % n ≡ s
 small_mod s n below = let same : s ≡ 0 * n + s = omega arith in ap (λ k. k % n) same ∙ mod-mul-add 0 n s below
@@ -167,7 +167,7 @@ single_dirty p are =
     let told_one = tag_told p are i in_i.0 one.0 one.1 in
     let told_two = tag_told p are j in_j.0 two.0 two.1 in
     let x_m : held_state (shape_of (shown p)) (shown p).tags i x ≡ Some M = ap (λ b. held_state (shape_of (shown p)) (shown p).tags i b) (sym one.2) ∙ told_one.state ∙ ap (λ m. Some m) one.3 in
-    let y_m : held_state (shape_of (shown p)) (shown p).tags j x ≡ Some M = ap (λ b. held_state (shape_of (shown p)) (shown p).tags j b) (same_line x y same ∙ sym two.2) ∙ told_two.state ∙ ap (λ m. Some m) two.3 in
+    let y_m : held_state (shape_of (shown p)) (shown p).tags j x ≡ Some M = ap (λ b. held_state (shape_of (shown p)) (shown p).tags j b) (line_by_number x y same ∙ sym two.2) ∙ told_two.state ∙ ap (λ m. Some m) two.3 in
     let a = owner_held p are x i (ap is_owner x_m) in
     let b = owner_held p are x j (ap is_owner y_m) in
     let there = are.range x i a.0 a.1 in

@@ -6,12 +6,12 @@ use Rattle.conda_base.specs.LineLists.{names}
 use Rattle.conda_base.specs.declared.Line.{Line}
 use Rattle.conda_base.specs.declared.Mesi.{Mesi}
 use Rattle.conda_base.specs.declared.Mesi.TheVariants.{M, E, S}
-use Rattle.cpu_cache.proofs.EntryFacts.{same_line}
 use Rattle.line_memory.specs.Tags.{Tags, Shape, held_state, is_in_m, some_below}
 use Rattle.line_memory.specs.Copies.{copy_after, has_same_owner}
 use Rattle.line_memory.specs.Backing.{BackingView, IsBacking, shape_of, copy_of, view_of, dirty_in}
 use Rattle.line_memory.proofs.BelowLemmas.{some_exists, some_found}
 use Rattle.line_memory.proofs.MemberLemmas.{cons_cases, cons_here, cons_later, none_in_nil, state_of_dirty, dirty_of_state}
+use Rattle.conda_base.proofs.LineLemmas.{line_by_number}
 
 -- some holder has the line in M
 abbrev pub is_dirty : Shape → Tags → Line → Bool
@@ -47,7 +47,7 @@ contained [] l is = absurd cc
 contained (line ∷ lines) l is =
     ⊎_elim
     (λ (first : eqb line.0 l.0 ≡ true).
-    subst (λ (b : Line). Contains (line ∷ lines) b) (same_line line l (eqb-true _ _ first)) (cons_here line lines))
+    subst (λ (b : Line). Contains (line ∷ lines) b) (line_by_number line l (eqb-true _ _ first)) (cons_here line lines))
     (λ (later : names lines l ≡ true). cons_later line l lines (contained lines l later))
     (or_cases (eqb line.0 l.0) (names lines l) is)
 

@@ -6,7 +6,7 @@ use Rattle.conda_base.specs.declared.Mesi.{Mesi}
 use Rattle.conda_base.specs.declared.Mesi.TheVariants.{M, E, S}
 use Rattle.conda_base.specs.Bytes.{handed_out}
 use Rattle.cpu_cache.specs.Contents.{Content, Contents, content_of, set_list, with_set, restated, bytes_in, written_back as handed_back}
-use Rattle.cpu_cache.proofs.FindFacts.{list_entries}
+use Rattle.set_assoc.proofs.FindFacts.{list_entries}
 use Rattle.mesi_directory.specs.declared.row.Row.{Row}
 use Rattle.mesi_directory.specs.declared.row.Row.TheVariants.{Owner}
 use Rattle.mesi_directory.specs.Rows.{Rows, IsRow, row_of, with_row, shared_with}

@@ -9,8 +9,7 @@ use Rattle.conda_base.specs.declared.Mesi.TheVariants.{M, E, S}
 use Rattle.conda_base.specs.Bytes.{handed_out}
 use Rattle.set_assoc.specs.Entries.{replaced, lookup, AreEntries}
 use Rattle.cpu_cache.specs.Contents.{Content, Contents, set_list, tag_of, with_set, restated, state_of, content_of, bytes_in, written_back as handed_back}
-use Rattle.cpu_cache.proofs.EntryFacts.{same_line}
-use Rattle.cpu_cache.proofs.FindFacts.{list_entries}
+use Rattle.set_assoc.proofs.FindFacts.{list_entries}
 use Rattle.mesi_directory.specs.declared.row.Row.{Row}
 use Rattle.mesi_directory.specs.declared.row.Row.TheVariants.{Owner}
 use Rattle.mesi_directory.specs.Rows.{row_of}
@@ -30,6 +29,7 @@ use Rattle.coherent_mem.proofs.ViewFacts.{held_inside, view_of_shown}
 use Rattle.line_memory.proofs.MemberLemmas.{each_one}
 use Rattle.coherent_mem.proofs.MoveFacts.{IsBack, moved, read_cache, back_dirty, edits_of, seen_content, list_entries_of, state_held}
 use Rattle.coherent_mem.proofs.CoherentFacts.{dirty_state, tag_told}
+use Rattle.conda_base.proofs.LineLemmas.{line_by_number}
 
 cleaned_line-none : (l : Line) (tags : List Tag) → state_in l tags ≡ None → cleaned_line l tags ≡ tags
 cleaned_line-none l [] none = refl
@@ -55,7 +55,7 @@ cleaned_line-map n k l a bytes (entry ∷ rest) are at m =
     let found : Some entry.1 ≡ Some a = rw yes at at in
     let content : entry.1 ≡ a = cc in
     let state : entry.1.state ≡ M = ap (λ (c : Content). c.state) content ∙ m in
-    let line : entry.0 ≡ l = same_line entry.0 l (eqb-true _ _ yes) in
+    let line : entry.0 ≡ l = line_by_number entry.0 l (eqb-true _ _ yes) in
     let none : lookup l rest ≡ None = ap (λ b. lookup b rest) (sym line) ∙ are.1 in
     rw yes (ap (λ ts. (entry.0, cleaned_state entry.1.state) ∷ ts) (cleaned_line-absent l rest none) ∙ ap (λ s. (entry.0, cleaned_state s) ∷ map tag_of rest) state ∙ ap (λ b. (b, E) ∷ map tag_of rest) line))
     (λ (off : eqb entry.0.0 l.0 ≡ false). rw off (ap (λ ts. tag_of entry ∷ ts) (cleaned_line-map n k l a bytes rest are.2 (rw off at at) m)))

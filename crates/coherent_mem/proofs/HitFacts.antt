@@ -6,14 +6,13 @@ use Rattle.std.proofs.lemmas.Bool.{cases_eq, eq-eqb}
 use Rattle.std.proofs.Math.Path.{fun_ext}
 use Rattle.conda_base.specs.declared.Line.{Line}
 use Rattle.conda_base.specs.declared.Mesi.{Mesi}
-use Rattle.conda_base.proofs.LineLemmas.{line_bytes_in_memory, access_in_line, line_in_memory, access_size_cases, line_split}
+use Rattle.conda_base.proofs.LineLemmas.{line_bytes_in_memory, access_in_line, line_in_memory, access_size_cases, line_split, line_by_number}
 use Rattle.conda_base.specs.Bytes.{handed_out, value_at, number_of}
 use Rattle.conda_base.specs.Lines.{line_number, line_offset}
 use Rattle.conda_base.specs.LineLists.{line_at}
 use Rattle.set_assoc.specs.Entries.{without, touched}
 use Rattle.cpu_cache.specs.Contents.{loaded, Content, Contents, content_of, set_list, tag_of, with_set, filled, in_front}
-use Rattle.cpu_cache.proofs.EntryFacts.{same_line, length-without}
-use Rattle.cpu_cache.proofs.FindFacts.{list_entries, list_short}
+use Rattle.set_assoc.proofs.FindFacts.{list_entries, list_short}
 use Rattle.cpu_cache.proofs.ViewFacts.{value_at_line}
 use Rattle.mesi_directory.specs.Rows.{row_of}
 use Rattle.line_memory.specs.Notes.{access_notes, load_notes}
@@ -34,6 +33,7 @@ use Rattle.coherent_mem.proofs.CopyFacts.{copies_follow, range_new}
 use Rattle.coherent_mem.proofs.DirtyFacts.{follows}
 use Rattle.coherent_mem.proofs.CoherentFacts.{coherent}
 use Rattle.coherent_mem.proofs.MoveFacts.{state_held, list_entries_of, edits_of, moved, read_cache, seen_content}
+use Rattle.set_assoc.proofs.EntryLemmas.{length-without}
 
 -- the line of an access is one of memory's, and the access stays in it
 pub access_line : (p : Parts) → AreParts p → (addr size : ℕ) → IsAccess (shown p) addr size → IsIn p.memory (line_at (shown p).line_bytes addr)
@@ -114,7 +114,7 @@ hit p h l a cache are at touched_is =
     (cases_eq k h) in
     let same : (b : Line) (k : ℕ) → held q b k ≡ held p b k =
     λ b k. ⊎_elim
-    (λ (line : b.0 ≡ l.0). ap (λ i. held q i k) (same_line b l line) ∙ same_here k ∙ ap (λ i. held p i k) (sym (same_line b l line)))
+    (λ (line : b.0 ≡ l.0). ap (λ i. held q i k) (line_by_number b l line) ∙ same_here k ∙ ap (λ i. held p i k) (sym (line_by_number b l line)))
     (λ (other : b.0 ≢ l.0). held_other p q h k l b (Some a) inside e other)
     (cases_eq b.0 l.0) in
     let parts : AreParts q = parts_edited p q h l (Some a) are inside there e (kept_same (held p l) (held q l) (row_of p.rows l) (line_of p.memory l) same_here kept) in

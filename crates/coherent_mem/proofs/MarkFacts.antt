@@ -9,7 +9,6 @@ use Rattle.conda_base.specs.declared.Line.{Line}
 use Rattle.conda_base.specs.declared.Mesi.{Mesi}
 use Rattle.conda_base.specs.declared.Mesi.TheVariants.{M, E, S}
 use Rattle.conda_base.specs.LineLists.{line_at}
-use Rattle.cpu_cache.proofs.EntryFacts.{same_line}
 use Rattle.line_memory.specs.Tags.{Tag, is_modified, state_in, without_line, cleaned_line, cleaned_state, held_state}
 use Rattle.line_memory.specs.Backing.{BackingView, HasSameNumbers, flushed, shape_of}
 use Rattle.line_memory.specs.Access.{put_front, after_store}
@@ -22,6 +21,7 @@ use Rattle.coherent_mem.proofs.AloneFacts.{state_in-without}
 use Rattle.coherent_mem.proofs.CacheFacts.{test_off}
 use Rattle.coherent_mem.proofs.CoherentFacts.{coherent}
 use Rattle.coherent_mem.proofs.MergeFacts.{with_memory}
+use Rattle.conda_base.proofs.LineLemmas.{line_by_number}
 
 -- no line has become M
 pub marked_same : (a b : BackingView) (marks : List Bool) → HasSameNumbers a b → ((l : Line) (k : ℕ) → held_state (shape_of b) b.tags k l ≡ Some M → held_state (shape_of a) a.tags k l ≡ Some M) → AreMarked a marks → AreMarked b marks
@@ -74,7 +74,7 @@ stored_states p u t h l view alone steps j k m =
     (λ (apart : k ≢ h).
     let here : s ≡ n = ap (λ i. i % p.sets) line in
     let list : after k s ≡ without_line l ((shown p).tags k s) = rw (eq-eqb s n here, test_off k h apart) refl in
-    let none : state_in j (after k s) ≡ None = ap (λ b. state_in b (after k s)) (same_line j l line) ∙ ap (λ (ts : List Tag). state_in l ts) list ∙ state_in-without l ((shown p).tags k s) in
+    let none : state_in j (after k s) ≡ None = ap (λ b. state_in b (after k s)) (line_by_number j l line) ∙ ap (λ (ts : List Tag). state_in l ts) list ∙ state_in-without l ((shown p).tags k s) in
     let both : None ≡ Some M = sym none ∙ m_after in absurd cc)
     (cases_eq k h))
     (λ (other : j.0 ≢ l.0). inr (sym back ∙ ⊎_elim
@@ -167,7 +167,7 @@ pub marked_still : (a b : BackingView) (h : ℕ) (l : Line) (marks : List Bool) 
 marked_still a b h l marks same from was is =
     marked_same a b marks same
     (λ j k m. ⊎_elim
-    (λ (this : (j.0 ≡ l.0) × (k ≡ h)). ap (λ i. held_state (shape_of a) a.tags k i) (same_line j l this.0) ∙ ap (λ i. held_state (shape_of a) a.tags i l) this.1 ∙ was)
+    (λ (this : (j.0 ≡ l.0) × (k ≡ h)). ap (λ i. held_state (shape_of a) a.tags k i) (line_by_number j l this.0) ∙ ap (λ i. held_state (shape_of a) a.tags i l) this.1 ∙ was)
     (λ earlier. earlier)
     (from j k m)) is
 

@@ -7,10 +7,9 @@ use Rattle.std.specs.Option.{option_map}
 use Rattle.conda_base.specs.declared.Line.{Line}
 use Rattle.conda_base.specs.declared.Mesi.TheVariants.{M}
 use Rattle.conda_base.specs.Marks.{mixed}
-use Rattle.conda_base.proofs.LineLemmas.{line_size_bounds}
+use Rattle.conda_base.proofs.LineLemmas.{line_size_bounds, line_by_number}
 use Rattle.conda_base.proofs.MarkLemmas.{length-mixed}
 use Rattle.cpu_cache.specs.Contents.{Content}
-use Rattle.cpu_cache.proofs.EntryFacts.{same_line}
 use Rattle.mesi_directory.specs.declared.row.Row.{Row}
 use Rattle.mesi_directory.specs.Rows.{row_of}
 use Rattle.traffic_trace.specs.Notes.{Trace, noted}
@@ -67,7 +66,7 @@ mixed_line p l new are there none long =
     let below = there.below in
     let k : ℕ = l.0 - first_line p in
     let place : k < line_count p = omega arith in
-    let at_place : line_at_place p k ≡ l = same_line _ l (omega arith) in
+    let at_place : line_at_place p k ≡ l = line_by_number _ l (omega arith) in
     let size : length (f k) ≡ n = length_seen p are (line_at_place p k) (place_in p k place) in
     let gone : drop (0 + n) (f k) ≡ [] = drop_all (0 + n) (f k) (omega arith) in
     let here : g k ≡ take 0 (f k) ++ new ++ drop (0 + n) (f k) =
@@ -96,7 +95,7 @@ mixed_line p l new are there none long =
             let was_in : IsIn m a = in_same m own l a w within in
             let was : IsKept (held p a) (row_of p.rows a) (line_of m a) = are.kept a was_in in
             ⊎_elim
-            (λ (same : a.0 ≡ l.0). nobody (held p a) (row_of p.rows a) (line_of m a) (line_of own a) (λ h. ap (λ b. held p b h) (same_line a l same) ∙ none h) was)
+            (λ (same : a.0 ≡ l.0). nobody (held p a) (row_of p.rows a) (line_of m a) (line_of own a) (λ h. ap (λ b. held p b h) (line_by_number a l same) ∙ none h) was)
             (λ (apart : a.0 ≢ l.0). subst (λ (c : List ℕ). IsKept (held p a) (row_of p.rows a) c) (sym (w.others a was_in apart)) was)
             (cases_eq a.0 l.0);
       };

@@ -12,7 +12,6 @@ use Rattle.conda_base.specs.Bytes.{bytes_of_line}
 use Rattle.conda_base.specs.Lines.{line_number}
 use Rattle.conda_base.specs.LineLists.{line_at}
 use Rattle.cpu_cache.specs.Contents.{Content}
-use Rattle.cpu_cache.proofs.EntryFacts.{same_line}
 use Rattle.traffic_trace.specs.Notes.{Trace, noted}
 use Rattle.traffic_trace.specs.declared.note.Note.{Note}
 use Rattle.traffic_trace.specs.declared.note.Kind.TheVariants.{Fill}
@@ -32,6 +31,7 @@ use Rattle.coherent_mem.proofs.TagFacts.{is_some-mapped, state_of_content, state
 use Rattle.coherent_mem.proofs.DirtyFacts.{follows}
 use Rattle.coherent_mem.proofs.CoherentFacts.{coherent}
 use Rattle.coherent_mem.proofs.CopyFacts.{numbers_twice, quiet_twice, quiet_same, copies_follow, noted_twice, range_new, range_of}
+use Rattle.conda_base.proofs.LineLemmas.{line_by_number}
 
 -- the parts where a holder's set has room
 pub record IsRoomy (h : ℕ) (l : Line) (p q : Parts) : Type 0 where
@@ -268,7 +268,7 @@ loads_clean l state p q sharing same = go (some_below (length p.caches) (λ k. i
     go false is = cc
 
 pub line_is : (p : Parts) (addr n m : ℕ) (l : Line) → n ≡ m → m ≡ p.memory.line_bytes → l.0 ≡ line_number addr n → l ≡ line_at (shown p).line_bytes addr
-line_is p addr n m l first second is = same_line l (line_at (shown p).line_bytes addr) (is ∙ ap (λ k. line_number addr k) (first ∙ second))
+line_is p addr n m l first second is = line_by_number l (line_at (shown p).line_bytes addr) (is ∙ ap (λ k. line_number addr k) (first ∙ second))
 
 pub absent_line : (p : Parts) (h : ℕ) (l k : Line) → l ≡ k → held p k h ≡ None → held p l h ≡ None
 absent_line p h l k same none = ap (λ b. held p b h) same ∙ none

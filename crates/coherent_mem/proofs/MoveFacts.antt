@@ -6,12 +6,11 @@ use Rattle.std.proofs.lemmas.Bool.{cases_eq}
 use Rattle.conda_base.specs.declared.Line.{Line}
 use Rattle.conda_base.specs.declared.Mesi.{Mesi}
 use Rattle.conda_base.specs.declared.Mesi.TheVariants.{M, E, S}
-use Rattle.conda_base.proofs.LineLemmas.{line_bytes_in_memory}
+use Rattle.conda_base.proofs.LineLemmas.{line_bytes_in_memory, line_by_number}
 use Rattle.conda_base.specs.Bytes.{handed_out}
 use Rattle.set_assoc.specs.Entries.{without}
 use Rattle.cpu_cache.specs.Contents.{Content, Contents, IsHeld, content_of, set_list, tag_of, with_set, bytes_in, written_back as handed_back}
-use Rattle.cpu_cache.proofs.EntryFacts.{same_line}
-use Rattle.cpu_cache.proofs.FindFacts.{list_entries}
+use Rattle.set_assoc.proofs.FindFacts.{list_entries}
 use Rattle.mesi_directory.specs.declared.row.Row.{Row}
 use Rattle.mesi_directory.specs.Rows.{Rows, IsRow, row_of, with_row, has, without as row_without, IsIn as IsRowIn}
 use Rattle.mesi_directory.proofs.RowLemmas.{IsRow-without, held_below, row_of-with_row_same}
@@ -113,7 +112,7 @@ quiet_edit p q h l x are new inside e clean own =
     ⊎_elim
     (λ (same : a.0 ≡ l.0). ⊎_elim
     (λ (here : k ≡ h). absurd (clean (ap (λ o. option_map state_of_content o)
-    (sym (ap (λ b. held q b k) (same_line a l same) ∙ ap (λ i. held q l i) here ∙ held_here p q h l x inside e)) ∙ now)))
+    (sym (ap (λ b. held q b k) (line_by_number a l same) ∙ ap (λ i. held q l i) here ∙ held_here p q h l x inside e)) ∙ now)))
     (λ (apart : k ≢ h). (held_beside p q h k l a x e apart, λ s. apart)) (cases_eq k h))
     (λ (other : a.0 ≢ l.0). (held_other p q h k l a x inside e other, λ s. absurd (other s)))
     (cases_eq a.0 l.0) in
@@ -125,7 +124,7 @@ quiet_edit p q h l x are new inside e clean own =
           let content = some_of_state (held p a k) old in
           ⊎_elim
           (λ (same : a.0 ≡ l.0).
-          let line : a ≡ l = same_line a l same in
+          let line : a ≡ l = line_by_number a l same in
           ap (λ b. line_of q.memory b) line ∙
           own k ((was a k m).1 same) (ap (λ b. option_map state_of_content (held p b k)) (sym line) ∙ old) ∙
           ap (λ b. line_of p.memory b) (sym line))

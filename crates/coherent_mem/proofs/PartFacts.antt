@@ -4,9 +4,8 @@ use Rattle.std.proofs.lemmas.List.{length-set, get_or-set_same, get_or-set_other
 use Rattle.std.proofs.lemmas.Bool.{cases_eq, cases_lt}
 use Rattle.conda_base.specs.Lines.{IsLineOf}
 use Rattle.conda_base.specs.declared.Line.{Line}
-use Rattle.conda_base.proofs.LineLemmas.{line_bytes_in_memory}
+use Rattle.conda_base.proofs.LineLemmas.{line_bytes_in_memory, line_by_number}
 use Rattle.cpu_cache.specs.Contents.{Content, Contents, content_of, empty}
-use Rattle.cpu_cache.proofs.EntryFacts.{same_line}
 use Rattle.mesi_directory.specs.declared.row.Row.{Row}
 use Rattle.mesi_directory.specs.declared.row.Row.TheVariants.{Nobody}
 use Rattle.mesi_directory.specs.Rows.{Rows, AreRows, IsRow, IsIn as IsRowIn, row_of, with_row}
@@ -171,11 +170,11 @@ parts_edited p q h l x are inside there e kept = record {
   count = e.rows.count ∙ are.count ∙ sym (count_lines_same p q l e.memory);
   rows = e.rows.valid;
   range = λ a k content at. ⊎_elim
-      (λ (same : a.0 ≡ l.0). in_new p.memory q.memory l a e.memory (subst (λ (b : Line). IsIn p.memory b) (sym (same_line a l same)) there))
+      (λ (same : a.0 ≡ l.0). in_new p.memory q.memory l a e.memory (subst (λ (b : Line). IsIn p.memory b) (sym (line_by_number a l same)) there))
       (λ (apart : a.0 ≢ l.0). in_new p.memory q.memory l a e.memory (are.range a k content (sym (held_other p q h k l a x inside e apart) ∙ at)))
       (cases_eq a.0 l.0);
   kept = λ a within. ⊎_elim
-      (λ (same : a.0 ≡ l.0). subst (λ (b : Line). IsKept (held q b) (row_of q.rows b) (line_of q.memory b)) (sym (same_line a l same)) kept)
+      (λ (same : a.0 ≡ l.0). subst (λ (b : Line). IsKept (held q b) (row_of q.rows b) (line_of q.memory b)) (sym (line_by_number a l same)) kept)
       (λ (apart : a.0 ≢ l.0).
       let was_in : IsIn p.memory a = in_same p.memory q.memory l a e.memory within in
       let was : IsKept (held p a) (row_of p.rows a) (line_of p.memory a) = are.kept a was_in in
@@ -204,9 +203,9 @@ view_same p q h l x are inside e same =
     ap (λ n. each_below n (λ i. seen q (line_at_place q i))) (count_lines_same p q l e.memory) ∙
     each_same (line_count p) (λ i. seen q (line_at_place q i)) (λ i. seen p (line_at_place p i))
     (λ i below.
-    let place : line_at_place q i ≡ line_at_place p i = same_line _ _ (ap (λ f. f + i) (first_same p q l e.memory)) in
+    let place : line_at_place q i ≡ line_at_place p i = line_by_number _ _ (ap (λ f. f + i) (first_same p q l e.memory)) in
     ap (λ a. seen q a) place ∙
     ⊎_elim
-    (λ (at : (line_at_place p i).0 ≡ l.0). ap (λ a. seen q a) (same_line _ l at) ∙ same ∙ ap (λ a. seen p a) (sym (same_line _ l at)))
+    (λ (at : (line_at_place p i).0 ≡ l.0). ap (λ a. seen q a) (line_by_number _ l at) ∙ same ∙ ap (λ a. seen p a) (sym (line_by_number _ l at)))
     (λ (apart : (line_at_place p i).0 ≢ l.0). seen_other p q h l (line_at_place p i) x are inside e (place_in p i below) apart)
     (cases_eq (line_at_place p i).0 l.0))

@@ -6,14 +6,13 @@ use Rattle.std.proofs.Math.Nat.{mul-le-mul_left}
 use Rattle.std.specs.Int.{to_le_bytes, w32}
 use Rattle.conda_base.specs.declared.Line.{Line}
 use Rattle.conda_base.specs.declared.Mesi.TheVariants.{M}
-use Rattle.conda_base.proofs.LineLemmas.{access_in_line, place_in_memory}
+use Rattle.conda_base.proofs.LineLemmas.{access_in_line, place_in_memory, line_by_number}
 use Rattle.conda_base.specs.Bytes.{stored}
 use Rattle.conda_base.specs.Lines.{line_offset}
 use Rattle.conda_base.specs.LineLists.{line_at}
 use Rattle.cpu_cache.specs.Contents.{Content, Contents, set_list, tag_of, with_set, in_front}
-use Rattle.cpu_cache.proofs.EntryFacts.{same_line as line_same}
-use Rattle.cpu_cache.proofs.FindFacts.{list_entries}
-use Rattle.cpu_cache.proofs.ViewFacts.{length-low_bytes}
+use Rattle.set_assoc.proofs.FindFacts.{list_entries}
+use Rattle.conda_base.proofs.ByteLemmas.{length-low_bytes}
 use Rattle.mesi_directory.specs.declared.row.Row.{Row}
 use Rattle.mesi_directory.specs.declared.row.Row.TheVariants.{Owner}
 use Rattle.mesi_directory.specs.Rows.{Rows, row_of}
@@ -122,7 +121,7 @@ put_stored p q h addr size value bytes are inside access is same =
     let e = is.edit in
     let f : ℕ → List ℕ = λ i. seen p (line_at_place p i) in
     let g : ℕ → List ℕ = λ i. seen q (line_at_place p i) in
-    let line_place : line_at_place p (l.0 - first_line p) ≡ l = line_same _ l (omega arith) in
+    let line_place : line_at_place p (l.0 - first_line p) ≡ l = line_by_number _ l (omega arith) in
     let q_view : (shown q).view ≡ each_below count g = ap (λ (m : Memory). each_below (length m.bytes / m.line_bytes) (λ i. seen q (record { 0 = m.base / m.line_bytes + i }))) is.memory in
     let start : (l.0 - first_line p) * n + line_offset addr n ≡ addr - p.memory.base = place_in_memory p.memory.base n addr are.memory.size are.memory.whole_base access.from in
     q_view ∙

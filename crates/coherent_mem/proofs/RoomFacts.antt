@@ -12,7 +12,7 @@ use Rattle.conda_base.specs.declared.Mesi.{Mesi}
 use Rattle.conda_base.specs.declared.Mesi.TheVariants.{M, E, S}
 use Rattle.set_assoc.specs.Entries.{without, lookup}
 use Rattle.cpu_cache.specs.Contents.{Content, Contents, set_list, tag_of, tags_of}
-use Rattle.cpu_cache.proofs.FindFacts.{list_entries, list_short}
+use Rattle.set_assoc.proofs.FindFacts.{list_entries, list_short}
 use Rattle.cpu_cache.proofs.RoomFacts.{lookup_at, without_last}
 use Rattle.traffic_trace.specs.Notes.{Trace, noted}
 use Rattle.traffic_trace.specs.declared.note.Kind.TheVariants.{Evict}

@@ -13,8 +13,7 @@ use Rattle.conda_base.specs.declared.Mesi.{Mesi}
 use Rattle.conda_base.specs.declared.Mesi.TheVariants.{M, E, S}
 use Rattle.set_assoc.specs.Entries.{lookup, AreEntries}
 use Rattle.cpu_cache.specs.Contents.{Content, Contents, content_of, set_list, tag_of, empty, tags_of}
-use Rattle.cpu_cache.proofs.EntryFacts.{same_line, apart_by_test}
-use Rattle.cpu_cache.proofs.FindFacts.{list_entries}
+use Rattle.set_assoc.proofs.FindFacts.{list_entries, apart_by_test}
 use Rattle.mesi_directory.specs.declared.row.Row.{Row}
 use Rattle.mesi_directory.specs.declared.row.Row.TheVariants.{Nobody, Owner, Shared}
 use Rattle.mesi_directory.specs.Rows.{IsRow, row_of, has}
@@ -33,6 +32,7 @@ use Rattle.coherent_mem.proofs.LineFacts.{cases_Option, some_test, cases_S, besi
 use Rattle.coherent_mem.proofs.TagFacts.{state_of_content, state_shown, shared_line-absent}
 use Rattle.coherent_mem.proofs.ViewFacts.{held_inside}
 use Rattle.coherent_mem.proofs.MoveFacts.{list_entries_of, state_held}
+use Rattle.conda_base.proofs.LineLemmas.{line_by_number}
 
 shared_line-same : (n k : ℕ) (l : Line) (a : Content) (entries : List (Line × Content)) → AreEntries n k entries → lookup l entries ≡ Some a → a.state ≡ S → shared_line l (map tag_of entries) ≡ map tag_of entries
 shared_line-same n k l a [] are at shares = refl
@@ -42,7 +42,7 @@ shared_line-same n k l a (entry ∷ rest) are at shares =
     let found : Some entry.1 ≡ Some a = rw yes at at in
     let content : entry.1 ≡ a = cc in
     let state : entry.1.state ≡ S = ap (λ (c : Content). c.state) content ∙ shares in
-    let none : lookup l rest ≡ None = ap (λ b. lookup b rest) (same_line l entry.0 (sym (eqb-true _ _ yes))) ∙ are.1 in
+    let none : lookup l rest ≡ None = ap (λ b. lookup b rest) (line_by_number l entry.0 (sym (eqb-true _ _ yes))) ∙ are.1 in
     rw yes (ap (λ ts. (entry.0, S) ∷ ts) (shared_line-absent l rest none) ∙ ap (λ s. (entry.0, s) ∷ map tag_of rest) (sym state)))
     (λ (off : eqb entry.0.0 l.0 ≡ false). rw off (ap (λ ts. tag_of entry ∷ ts) (shared_line-same n k l a rest are.2 (rw off at at) shares)))
     (cases_Bool (eqb entry.0.0 l.0))

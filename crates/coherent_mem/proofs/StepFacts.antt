@@ -6,9 +6,8 @@ use Rattle.conda_base.specs.Lines.{IsLineOf}
 use Rattle.conda_base.specs.declared.Line.{Line}
 use Rattle.conda_base.specs.declared.Mesi.{Mesi}
 use Rattle.conda_base.specs.declared.Mesi.TheVariants.{M, E, S}
-use Rattle.conda_base.proofs.LineLemmas.{line_bytes_in_memory, line_size_bounds}
+use Rattle.conda_base.proofs.LineLemmas.{line_bytes_in_memory, line_size_bounds, line_by_number}
 use Rattle.conda_base.proofs.MarkLemmas.{length-mixed}
-use Rattle.cpu_cache.proofs.EntryFacts.{same_line}
 use Rattle.line_memory.specs.Memory.{IsMemory}
 use Rattle.line_memory.specs.Tags.{Tag, Tags, cleaned_state, cleaned_line, state_in, some_below, held_state, is_in_m}
 use Rattle.line_memory.specs.Backing.{BackingView, HasSameNumbers, IsBacking, IsDirty, IsInRange, copy_of, view_of, committed_line, flushed, merged, shape_of}
@@ -48,7 +47,7 @@ one_line a b after bytes l is is_new numbers tags view none here states others =
       let off : is_dirty (shape_of b) b.tags l ≡ false =
       none_found b.holders (λ h. is_in_m (held_state (shape_of b) b.tags h l)) (λ k below. not_in_m _ (λ m. none k (sym (state_b l k) ∙ m))) in
       let at_l : copy_of b l ≡ copy_next a b l = rw off here in
-      subst (λ (i : Line). copy_of b i ≡ copy_next a b i) (sym (same_line j l same)) at_l)
+      subst (λ (i : Line). copy_of b i ≡ copy_next a b i) (sym (line_by_number j l same)) at_l)
       (λ (apart : j.0 ≢ l.0).
       let told = others j there apart in
       let state : (k : ℕ) → held_state (shape_of b) b.tags k j ≡ held_state (shape_of a) a.tags k j = λ k. state_b j k ∙ states j k apart in

@@ -11,7 +11,7 @@ use Rattle.conda_base.specs.Bytes.{handed_out, stored}
 use Rattle.conda_base.specs.Lines.{IsAccessSize, line_offset, line_number}
 use Rattle.conda_base.specs.LineLists.{line_at}
 use Rattle.cpu_cache.specs.Contents.{Content, Contents, IsHeld, content_of, with_set, bytes_of, content_bytes, in_front, state_of, stored_if_owned, stored_by}
-use Rattle.cpu_cache.proofs.ViewFacts.{length-low_bytes}
+use Rattle.conda_base.proofs.ByteLemmas.{length-low_bytes}
 use Rattle.mesi_directory.specs.declared.row.Row.TheVariants.{Owner}
 use Rattle.mesi_directory.specs.Rows.{Rows, row_of, with_row}
 use Rattle.mesi_directory.proofs.RowLemmas.{row_of-with_row_same}

@@ -9,7 +9,6 @@ use Rattle.conda_base.specs.declared.Mesi.{Mesi}
 use Rattle.conda_base.specs.declared.Mesi.TheVariants.{S}
 use Rattle.set_assoc.specs.Entries.{lookup, without, replaced, AreEntries}
 use Rattle.cpu_cache.specs.Contents.{Content, Contents, content_of, set_list, tag_of, tags_of, with_set, empty}
-use Rattle.cpu_cache.proofs.EntryFacts.{same_line}
 use Rattle.line_memory.specs.Tags.{Tag, state_in, without_line, held_state}
 use Rattle.line_memory.specs.Access.{shared_line}
 use Rattle.line_memory.specs.Backing.{shape_of}
@@ -17,6 +16,7 @@ use Rattle.coherent_mem.specs.Parts.{Parts, AreParts, cache_at, held, shown}
 use Rattle.coherent_mem.specs.Moves.{relisted}
 use Rattle.coherent_mem.proofs.CacheFacts.{test_off}
 use Rattle.coherent_mem.proofs.PartFacts.{IsPartEdit, cache_same, cache_beside}
+use Rattle.conda_base.proofs.LineLemmas.{line_by_number}
 
 -- the state that a content has
 abbrev pub state_of_content : Content → Mesi
@@ -86,7 +86,7 @@ without_line-map n k l [] are = refl
 without_line-map n k l (entry ∷ rest) are =
     ⊎_elim
     (λ (yes : eqb entry.0.0 l.0 ≡ true).
-    let none : lookup l rest ≡ None = ap (λ a. lookup a rest) (same_line l entry.0 (sym (eqb-true _ _ yes))) ∙ are.1 in
+    let none : lookup l rest ≡ None = ap (λ a. lookup a rest) (line_by_number l entry.0 (sym (eqb-true _ _ yes))) ∙ are.1 in
     rw yes (without_line-absent l rest none))
     (λ (no : eqb entry.0.0 l.0 ≡ false). rw no (ap (λ ts. tag_of entry ∷ ts) (without_line-map n k l rest are.2)))
     (cases_Bool (eqb entry.0.0 l.0))
@@ -104,7 +104,7 @@ shared_line-map n k l bytes [] are = refl
 shared_line-map n k l bytes (entry ∷ rest) are =
     ⊎_elim
     (λ (yes : eqb entry.0.0 l.0 ≡ true).
-    let line : entry.0 ≡ l = same_line entry.0 l (eqb-true _ _ yes) in
+    let line : entry.0 ≡ l = line_by_number entry.0 l (eqb-true _ _ yes) in
     let none : lookup l rest ≡ None = ap (λ a. lookup a rest) (sym line) ∙ are.1 in
     rw yes (ap (λ ts. (entry.0, S) ∷ ts) (shared_line-absent l rest none) ∙ ap (λ a. (a, S) ∷ map tag_of rest) line))
     (λ (no : eqb entry.0.0 l.0 ≡ false). rw no (ap (λ ts. tag_of entry ∷ ts) (shared_line-map n k l bytes rest are.2)))

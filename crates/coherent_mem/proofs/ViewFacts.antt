@@ -4,9 +4,8 @@ use Rattle.std.proofs.lemmas.List.{length-append, length-drop, length-take-le, d
 use Rattle.std.proofs.lemmas.Bool.{cases_lt}
 use Rattle.std.proofs.Math.Nat.{mul-le-mul_left}
 use Rattle.conda_base.specs.declared.Line.{Line}
-use Rattle.conda_base.proofs.LineLemmas.{line_bytes_in_memory, whole_split}
+use Rattle.conda_base.proofs.LineLemmas.{line_bytes_in_memory, whole_split, line_by_number}
 use Rattle.cpu_cache.specs.Contents.{Content, content_of}
-use Rattle.cpu_cache.proofs.EntryFacts.{same_line}
 use Rattle.line_memory.specs.Memory.{IsIn, line_of}
 use Rattle.line_memory.specs.Tags.{each_below}
 use Rattle.line_memory.specs.Backing.{view_of}
@@ -109,7 +108,7 @@ view_of_shown p are l inside =
     let from = inside.from in
     let below = inside.below in
     let place : l.0 - first_line p < line_count p = omega arith in
-    let line : line_at_place p (l.0 - first_line p) ≡ l = same_line _ l (omega arith) in
+    let line : line_at_place p (l.0 - first_line p) ≡ l = line_by_number _ l (omega arith) in
     bytes_of_line-in m.base n l.0 (shown p).view span.0 ∙
     ap (λ s. take n (drop s (shown p).view)) (line_start p are l inside) ∙
     part_of_each n (line_count p) (l.0 - first_line p) (λ i. seen p (line_at_place p i)) (λ i inside. length_seen p are (line_at_place p i) (place_in p i inside)) place ∙

@@ -1,9 +1,14 @@
 -- What the layers above use of lines and offsets, so that none of them divides.
-use Rattle.std.proofs.Common.{◌≡◌, ℕ, ◌+◌, ◌-◌, ◌*◌, ◌/◌, ◌%◌, ◌<◌, ◌≤◌, ◌⊎◌, inl, inr, ⊎_elim, IsTrue, sym, ◌∙◌, ap, arith, eqb, ◌||◌}
+use Rattle.std.proofs.Common.{◌≡◌, ℕ, ◌+◌, ◌-◌, ◌*◌, ◌/◌, ◌%◌, ◌<◌, ◌≤◌, ◌⊎◌, inl, inr, ⊎_elim, IsTrue, ◌∙◌, ap, arith, eqb, ◌||◌}
 use Rattle.std.proofs.Math.Nat.{div-add-mod', mod-lt}
 use Rattle.std.proofs.lemmas.Nat.{div-mul-add, mod-mul-add}
 use Rattle.std.proofs.lemmas.Bool.{or_cases, eqb-true}
+use Rattle.conda_base.specs.declared.line.Line.{Line}
 use Rattle.conda_base.specs.Lines.{IsLineSize, IsAccessSize, IsWhole, IsLineOf, line_number, line_offset}
+
+-- a line is its number
+pub line_by_number : (a b : Line) → a.0 ≡ b.0 → a ≡ b
+line_by_number a b same = ap (λ n. record { 0 = n }) same
 
 -- one of three tests
 one_of_three : (n a b c : ℕ) → IsTrue (eqb n a || eqb n b || eqb n c) → (n ≡ a) ⊎ ((n ≡ b) ⊎ (n ≡ c))
@@ -31,10 +36,6 @@ line_split addr n = div-add-mod' addr n
 pub offset_below : (addr n : ℕ) → IsLineSize n → line_offset addr n < n
 offset_below addr n h = mod-lt addr (line_size_positive n h)
 
-pub same_address : (a b n : ℕ) → line_number a n ≡ line_number b n → line_offset a n ≡ line_offset b n → a ≡ b
-same_address a b n line offset =
-    sym (line_split a n) ∙ ap (λ l. l * n + line_offset a n) line ∙ ap (λ k. line_number b n * n + k) offset ∙ line_split b n
-
 -- the line and the offset of a place in a line
 pub line_number_of_place : (l n k : ℕ) → k < n → line_number (l * n + k) n ≡ l
 line_number_of_place l n k h = div-mul-add l n k h
@@ -46,10 +47,6 @@ line_offset_of_place l n k h = mod-mul-add l n k h
 pub line_number-add : (addr k n : ℕ) → line_offset addr n + k < n → line_number (addr + k) n ≡ line_number addr n
 line_number-add addr k n h =
     ap (λ a. a / n) (omega (arith, line_split addr n)) ∙ line_number_of_place (line_number addr n) n (line_offset addr n + k) h
-
-pub line_offset-add : (addr k n : ℕ) → line_offset addr n + k < n → line_offset (addr + k) n ≡ line_offset addr n + k
-line_offset-add addr k n h =
-    ap (λ a. a % n) (omega (arith, line_split addr n)) ∙ line_offset_of_place (line_number addr n) n (line_offset addr n + k) h
 
 -- an aligned access stays in its line
 pub access_in_line : (addr size n : ℕ) → IsLineSize n → IsAccessSize size → addr % size ≡ 0 → line_offset addr n + size ≤ n

@@ -10,11 +10,10 @@ use Rattle.set_assoc.specs.Entries.{lookup, AreEntries}
 use Rattle.set_assoc.specs.Places.{ArePlacedSets, place_of}
 use Rattle.set_assoc.specs.declared.placed.Placed.{Placed}
 use Rattle.set_assoc.specs.Seen.{seen_list, seen_through}
-use Rattle.set_assoc.specs.SetLists.{SetLists, set_of, list_of, with_list}
-use Rattle.cpu_cache.specs.Find.{find, IsSets}
+use Rattle.set_assoc.specs.SetLists.{SetLists, set_of, list_of, with_list, find, IsSets}
 use Rattle.cpu_cache.specs.Slots.{content_in, slot_of}
-use Rattle.cpu_cache.proofs.EntryFacts.{apart_by_test, other_line}
-use Rattle.cpu_cache.proofs.FindFacts.{IsSets-changed, list_of-other, list_of-same, set_below}
+use Rattle.set_assoc.proofs.FindFacts.{IsSets-changed, list_of-other, list_of-same, set_below, apart_by_test}
+use Rattle.set_assoc.proofs.EntryLemmas.{other_line}
 
 -- the place of a held line is below eight
 pub place_below : (lines : SetLists (Placed Mesi)) (l : Line) (kept : Placed Mesi) → ArePlacedSets lines → find lines l ≡ Some kept → kept.place < 8

@@ -7,22 +7,22 @@ use Rattle.std.proofs.Math.ListN.{get_or-map}
 use Rattle.std.proofs.lemmas.Option.{slice_get-map}
 use Rattle.std.specs.Int.{to_le_bytes, w32}
 use Rattle.conda_base.specs.Bytes.{handed_out, stored, value_at, number_of}
+use Rattle.conda_base.proofs.ByteLemmas.{length-low_bytes}
 use Rattle.conda_base.specs.declared.Line.{Line}
 use Rattle.conda_base.specs.declared.Mesi.{Mesi}
 use Rattle.conda_base.specs.declared.Mesi.TheVariants.{M, E, S}
 use Rattle.conda_base.specs.Lines.{IsAccessSize}
-use Rattle.conda_base.proofs.LineLemmas.{line_size_bounds, access_size_cases}
+use Rattle.conda_base.proofs.LineLemmas.{line_size_bounds}
 use Rattle.set_assoc.specs.Entries.{without, replaced, touched}
 use Rattle.set_assoc.specs.Places.{ArePlacedSets, placed}
 use Rattle.set_assoc.specs.declared.placed.Placed.{Placed}
 use Rattle.set_assoc.specs.Seen.{seen_list, seen_through}
-use Rattle.set_assoc.specs.SetLists.{SetLists, set_of, list_of, with_list}
+use Rattle.set_assoc.specs.SetLists.{SetLists, set_of, list_of, with_list, find, IsSets}
 use Rattle.set_assoc.proofs.SetLemmas.{list_of-with_list}
 use Rattle.set_assoc.proofs.SeenFacts.{IsSets-seen, changed-seen, find-seen, list_of-seen, replaced-seen_list, replicate-seen, touched-seen_list, with_list-seen, without-seen_list}
 use Rattle.cpu_cache.specs.Contents.{Content, Contents, IsCache, bytes_in, bytes_of, content_bytes, content_of, filled, in_front, leaving, loaded, restated, set_list, state_of, stored_if_owned, tag_of, tags_of, with_set, written_back}
-use Rattle.cpu_cache.specs.Find.{find, IsSets}
 use Rattle.cpu_cache.specs.Slots.{IsSlot, IsStore, content_in, contents_in, slot_of}
-use Rattle.cpu_cache.proofs.FindFacts.{set_below}
+use Rattle.set_assoc.proofs.FindFacts.{set_below}
 use Rattle.cpu_cache.proofs.PlaceFacts.{place_below, write_unseen}
 use Rattle.cpu_cache.proofs.RoomFacts.{find_listed}
 use Rattle.cpu_cache.proofs.StoreFacts.{IsSlot-written, slot_at, slot_handed_out}
@@ -207,12 +207,6 @@ value_at_line n offset size slot room within = ap number_of (part n offset size 
 
 pub stored_line : (n offset size : ℕ) (slot new : List ℕ) → n ≤ length slot → offset + size ≤ n → length new ≡ size → take n (take offset slot ++ new ++ drop (offset + size) slot) ≡ take offset (take n slot) ++ new ++ drop (offset + size) (take n slot)
 stored_line n offset size slot new room within len = same_lists _ _ (search (rules, places)) (λ k d below. grind (arith, places))
-
-pub length-low_bytes : (size value : ℕ) → IsAccessSize size → length (take size (to_le_bytes w32 value)) ≡ size
-length-low_bytes size value access =
-    let sizes = access_size_cases size access in
-    let few : size ≤ 4 = grind arith in
-    length-take-le size (to_le_bytes w32 value) few
 
 -- the number that an access of a held line reads
 pub value_seen : (n : ℕ) (lines : SetLists (Placed Mesi)) (slots : List (List ℕ)) (l : Line) (kept : Placed Mesi) (bytes : List ℕ) (offset size : ℕ) → IsStore n lines slots → find lines l ≡ Some kept → bytes ≡ get_or slots (slot_in lines l kept) bytes → offset + size ≤ n → Some (value_at bytes offset size) ≡ loaded offset size (content_of (contents_in n slots lines) l)

@@ -2,13 +2,12 @@
 use Rattle.std.specs.Prelude.{ℕ, ◌≡◌, List, [], ◌∷◌, map, take, length, replicate, slice_index_or, Option, Some, None, IsSome, IfSome}
 use Rattle.std.specs.Option.{option_map}
 use Rattle.conda_base.specs.Bytes.{handed_out, stored, value_at}
-use Rattle.conda_base.specs.Lines.{IsLineSize, line_number}
+use Rattle.conda_base.specs.Lines.{IsLineSize}
 use Rattle.conda_base.specs.declared.Line.{Line}
 use Rattle.conda_base.specs.declared.Mesi.{Mesi}
 use Rattle.conda_base.specs.declared.Mesi.TheVariants.{M, E, S}
 use Rattle.set_assoc.specs.Entries.{without, replaced}
-use Rattle.set_assoc.specs.SetLists.{SetLists, list_of, with_list}
-use Rattle.cpu_cache.specs.Find.{find, IsSets}
+use Rattle.set_assoc.specs.SetLists.{SetLists, list_of, with_list, find, IsSets}
 
 -- a held line's state and its bytes
 pub record Content : Type 0 where
@@ -53,10 +52,6 @@ content_bytes (Some content) = content.bytes
 
 abbrev pub bytes_of : Contents → Line → List ℕ
 bytes_of c l = content_bytes (content_of c l)
-
--- the line of an address
-abbrev pub line_at : Contents → ℕ → Line
-line_at c addr = record { 0 = line_number addr c.line_bytes }
 
 -- what is handed out of a line that leaves
 abbrev pub leaving : Line × Content → Line × Mesi × List ℕ

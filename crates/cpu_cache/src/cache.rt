@@ -23,9 +23,10 @@ ghost use Rattle.std.specs.Prelude.{option_copied};
 ghost use Rattle.std.specs.Option.{option_map};
 ghost use Rattle.conda_base.specs.Bytes.{handed_out, value_at, stored};
 ghost use Rattle.conda_base.specs.Lines.{IsLineSize, IsAccessSize, line_offset};
+ghost use Rattle.conda_base.specs.LineLists.{line_at};
 ghost use Rattle.conda_base.specs.declared.Mesi.TheVariants.{M, E, S};
 ghost use Rattle.set_assoc.specs.Entries.{touched, without};
-ghost use Rattle.cpu_cache.specs.Contents.{Contents, IsCache, IsHeld, bytes_in, bytes_of, content_of, empty, filled, in_front, leaving, line_at, loaded, restated, set_list, state_of, stored_if_owned, tags_of, with_set, written_back};
+ghost use Rattle.cpu_cache.specs.Contents.{Contents, IsCache, IsHeld, bytes_in, bytes_of, content_of, empty, filled, in_front, leaving, loaded, restated, set_list, state_of, stored_if_owned, tags_of, with_set, written_back};
 
 use crate::lines::{PLACES, front_in, held_at, slot_at};
 use conda_base::{Line, Mesi, line_of, offset_of, read_value, write_value};
@@ -63,7 +64,8 @@ impl CpuCache {
         requires few_sets { sets ≤ 256 }
         requires some_ways { 0 < ways }
         requires few_ways { ways ≤ 8 }
-        ensures { IfOk result (λ c. c ≡ empty line_bytes sets ways) }
+        ensures empty { IfOk result (λ c. c ≡ empty line_bytes sets ways) }
+        ensures kept { IfOk result (λ c. IsCache c) }
     {
         let lines = PlacedSets::new(alloc, sets, ways)?;
         let slots = empty_slots(alloc, sets as usize * PLACES)?;
@@ -106,10 +108,10 @@ impl CpuCache {
     pub fn load(&mut self, addr: u32, size: u8) -> u32
         requires size { IsAccessSize size }
         requires aligned { addr % size ≡ 0 }
-        requires held { IsHeld self.old (line_at self.old addr) }
-        ensures value { let l = line_at self.old addr in
+        requires held { IsHeld self.old (line_at self.old.line_bytes addr) }
+        ensures value { let l = line_at self.old.line_bytes addr in
             result ≡ value_at (bytes_of self.old l) (line_offset addr self.old.line_bytes) size }
-        ensures front { let l = line_at self.old addr in
+        ensures front { let l = line_at self.old.line_bytes addr in
             self.new ≡ with_set self.old l (touched l (set_list self.old l)) }
         ensures kept { IsCache self.new }
     {
@@ -121,8 +123,8 @@ impl CpuCache {
     pub fn store(&mut self, addr: u32, size: u8, value: u32)
         requires size { IsAccessSize size }
         requires aligned { addr % size ≡ 0 }
-        requires held { IsHeld self.old (line_at self.old addr) }
-        ensures lines { let l = line_at self.old addr in
+        requires held { IsHeld self.old (line_at self.old.line_bytes addr) }
+        ensures lines { let l = line_at self.old.line_bytes addr in
             let offset = line_offset addr self.old.line_bytes in
             let bytes = stored (bytes_of self.old l) offset size value in
             self.new ≡ with_set self.old l
@@ -139,9 +141,9 @@ impl CpuCache {
     pub fn load_held(&mut self, addr: u32, size: u8) -> Option<u32>
         requires size { IsAccessSize size }
         requires aligned { addr % size ≡ 0 }
-        ensures value { let l = line_at self.old addr in
+        ensures value { let l = line_at self.old.line_bytes addr in
             result ≡ loaded (line_offset addr self.old.line_bytes) size (content_of self.old l) }
-        ensures front { let l = line_at self.old addr in
+        ensures front { let l = line_at self.old.line_bytes addr in
             self.new ≡ with_set self.old l (touched l (set_list self.old l)) }
         ensures kept { IsCache self.new }
     {
@@ -155,9 +157,10 @@ impl CpuCache {
     pub fn store_owned(&mut self, addr: u32, size: u8, value: u32) -> Option<Mesi>
         requires size { IsAccessSize size }
         requires aligned { addr % size ≡ 0 }
-        ensures state { result ≡ state_of self.old (line_at self.old addr) }
-        ensures lines { let offset = line_offset addr self.old.line_bytes in
-            self.new ≡ stored_if_owned self.old (line_at self.old addr) offset size value }
+        ensures state { result ≡ state_of self.old (line_at self.old.line_bytes addr) }
+        ensures lines { let l = line_at self.old.line_bytes addr in
+            let offset = line_offset addr self.old.line_bytes in
+            self.new ≡ stored_if_owned self.old l offset size value }
         ensures kept { IsCache self.new }
     {
         let line_bytes = self.line_bytes;

@@ -2,8 +2,7 @@
 ghost use Rattle.std.specs.Prelude.{◌≡◌, ◌<◌, ◌≤◌, ◌*◌, ◌∷◌, IsSome, Some, length};
 ghost use Rattle.set_assoc.specs.Entries.{without};
 ghost use Rattle.set_assoc.specs.Places.{ArePlacedSets, place_of, placed};
-ghost use Rattle.set_assoc.specs.SetLists.{list_of, with_list};
-ghost use Rattle.cpu_cache.specs.Find.{find};
+ghost use Rattle.set_assoc.specs.SetLists.{list_of, with_list, find};
 ghost use Rattle.cpu_cache.specs.Slots.{slot_of};
 
 use conda_base::{Line, Mesi};

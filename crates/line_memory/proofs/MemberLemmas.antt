@@ -8,14 +8,12 @@ use Rattle.std.proofs.lemmas.Nat.{mod_below}
 use Rattle.conda_base.specs.declared.Line.{Line}
 use Rattle.conda_base.specs.declared.Mesi.{Mesi}
 use Rattle.conda_base.specs.declared.Mesi.TheVariants.{M, E, S}
+use Rattle.conda_base.proofs.LineLemmas.{line_by_number}
 use Rattle.line_memory.specs.Tags.{Tag, is_modified, modified, state_in, held_state, each_below}
 use Rattle.line_memory.specs.Backing.{BackingView, IsBacking, IsDirty, shape_of}
 use Rattle.line_memory.proofs.WalkLemmas.{each_empty}
 use Rattle.line_memory.specs.Notes.{back_notes}
 use Rattle.line_memory.specs.Laws.{IsWrittenBackBy}
-
-same_line : (a b : Line) → a.0 ≡ b.0 → a ≡ b
-same_line a b is = ap (λ n. record { 0 = n }) is
 
 pub cons_cases : {A : Type 0} (y x : A) (ys : List A) → Contains (y ∷ ys) x → (y ≡ x) ⊎ Contains ys x
 cons_cases y x ys (zero, below, is) = inl is
@@ -105,7 +103,7 @@ modified_contains l (tag ∷ tags) is =
     (λ (on : eqb tag.0.0 l.0 ≡ true).
     let both : Some tag.1 ≡ Some M = rw on at is in
     let state : tag.1 ≡ M = cc in
-    let line : tag.0 ≡ l = same_line tag.0 l (eqb-true _ _ on) in
+    let line : tag.0 ≡ l = line_by_number tag.0 l (eqb-true _ _ on) in
     rw (ap is_modified state) (subst (λ (b : Line). Contains (b ∷ modified tags) l) (sym line) (cons_here l (modified tags))))
     (λ (off : eqb tag.0.0 l.0 ≡ false).
     let later : Contains (modified tags) l = modified_contains l tags (rw off at is) in

@@ -158,10 +158,6 @@ dirty_from-flushed b l from =
     sym (each_filter (is_other l) b.sets (λ set. modified_from from (place_of b holder set 0) (b.tags holder set)))) ∙
     sym (each_filter (is_other l) b.holders (λ holder. each_below b.sets (λ set. modified_from from (place_of b holder set 0) (b.tags holder set))))
 
-pub dirty_in-flushed : (b : BackingView) (l : Line) → dirty_in (flushed b l) ≡ filter (is_other l) (dirty_in b)
-dirty_in-flushed b l =
-    sym (dirty_from-zero (flushed b l)) ∙ dirty_from-flushed b l 0 ∙ ap (λ ls. filter (is_other l) ls) (dirty_from-zero b)
-
 -- it is this line
 abbrev pub is_this : Line → Line → Bool
 is_this l k = k.0 == l.0

@@ -6,7 +6,7 @@ use Rattle.std.proofs.lemmas.Nat.{pow_below, pow_pos, or_lt, xor_lt, one_shl}
 use Rattle.std.proofs.lemmas.Nat.Bits.{bit_at_or, bit_at_xor, bit_at-lt, bit_at-zero, bit_at-pow_same, bit_at-pow_other, bit_at_above}
 use Rattle.std.proofs.lemmas.Bool.{cases_eq, cases_lt, cases_Bool, eqb-true}
 use Rattle.std.proofs.lemmas.Bool.Decides.{nat_tests}
-use Rattle.std.proofs.lemmas.List.{get_or-set_same, get_or-set_other, map-set, length-map}
+use Rattle.std.proofs.lemmas.List.{get_or-set_same, get_or-set_other, map-set}
 use Rattle.std.proofs.lemmas.List.{get_or-map as get_or-map_within}
 use Rattle.conda_base.specs.declared.Line.{Line}
 use Rattle.mesi_directory.specs.declared.row.Row.{Row}
@@ -127,6 +127,3 @@ pub AreRows-none : (n : ℕ) → AreRows (replicate n Nobody)
 AreRows-none zero i = tt
 AreRows-none (suc n) zero = tt
 AreRows-none (suc n) (suc i) = AreRows-none n i
-
-pub length-rows : (numbers : List ℕ) → length (unpacked_rows numbers) ≡ length numbers
-length-rows numbers = length-map numbers unpacked

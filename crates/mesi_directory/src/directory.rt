@@ -29,7 +29,9 @@ impl Model for Directory {
 impl Directory {
     /// A directory of `count` lines from `first` on, none of them held.
     pub fn new(alloc: Global, first: Line, count: u32) -> Result<Directory, AllocError>
-        ensures { IfOk result (λ d. d ≡ record { first = first.0; rows = replicate count Nobody }) }
+        ensures empty { IfOk result (λ d.
+            d ≡ record { first = first.0; rows = replicate count Nobody }) }
+        ensures kept { IfOk result (λ d. AreRows d.rows) }
     {
         let rows = vec![in alloc; 0u32; count as usize]?;
         Ok(Directory { first, rows })

@@ -1,19 +1,9 @@
 -- Where a line stands in its set, and what that makes of the set.
-use Rattle.std.proofs.Common.{◌≡◌, ℕ, zero, suc, ◌<◌, ◌≤◌, Bool, true, false, List, [], ◌∷◌, Option, Some, None, length, get_or, take, ◌%◌, ⊎_elim, eqb, cond, sym, ◌∙◌, ap, refl, arith}
-use Rattle.std.specs.List.{position, position_or_len}
-use Rattle.std.specs.Option.{MatchOption}
-use Rattle.std.proofs.lemmas.List.Quantifiers.{position-Some}
-use Rattle.std.proofs.lemmas.List.Sums.{fails_before_first}
-use Rattle.std.proofs.lemmas.Bool.{ltb-false, cases_Bool, eqb-true}
+use Rattle.std.proofs.Common.{◌≡◌, ℕ, zero, suc, ◌<◌, Bool, true, false, List, [], ◌∷◌, Some, None, length, get_or, take, ◌%◌, ⊎_elim, eqb, sym, ◌∙◌, ap, refl, arith}
+use Rattle.std.proofs.lemmas.Bool.{cases_Bool, eqb-true}
 use Rattle.conda_base.specs.declared.Line.{Line}
+use Rattle.conda_base.proofs.LineLemmas.{line_by_number}
 use Rattle.set_assoc.specs.Entries.{lookup, without, replaced, StandsAt, IsAbsent, AreEntries}
-
-test_of_none : (b : Bool) (n : ℕ) → cond b (Some n) None ≡ None → b ≡ false
-test_of_none true n h = cc
-test_of_none false n h = refl
-
-pub line_by_number : (a b : Line) → a.0 ≡ b.0 → a ≡ b
-line_by_number a b same = ap (λ n. record { 0 = n }) same
 
 module _ {T : Type 0} where
   -- the test that the code makes
@@ -106,3 +96,21 @@ module _ {T : Type 0} where
       (λ yes. rw yes (ap (λ l. lookup l rest) (line_by_number line entry.0 (sym (eqb-true _ _ yes))) ∙ are.1))
       (λ no. rw no (rw no (lookup-without_same n k line rest are.2)))
       (cases_Bool (eqb entry.0.0 line.0))
+
+  -- a line among the rest isn't the first one
+  pub other_line : (a : Line) (entry : Line × T) (rest : List (Line × T)) (value : T) → lookup entry.0 rest ≡ None → lookup a rest ≡ Some value → eqb entry.0.0 a.0 ≡ false
+  other_line a entry rest value absent there =
+      ⊎_elim
+      (λ (yes : eqb entry.0.0 a.0 ≡ true).
+      let none : lookup a rest ≡ None = ap (λ l. lookup l rest) (line_by_number a entry.0 (sym (eqb-true _ _ yes))) ∙ absent in absurd cc)
+      (λ no. no) (cases_Bool (eqb entry.0.0 a.0))
+
+  pub length-replaced : (line : Line) (new : T) (entries : List (Line × T)) → length (replaced line new entries) ≡ length entries
+  length-replaced line new [] = refl
+  length-replaced line new (entry ∷ rest) =
+      ⊎_elim (λ yes. rw yes refl) (λ no. rw no (ap suc (length-replaced line new rest))) (cases_Bool (eqb entry.0.0 line.0))
+
+  pub length-without : (line : Line) (value : T) (entries : List (Line × T)) → lookup line entries ≡ Some value → suc (length (without line entries)) ≡ length entries
+  length-without line value [] there = absurd cc
+  length-without line value (entry ∷ rest) there =
+      ⊎_elim (λ yes. rw yes refl) (λ no. rw no (ap suc (length-without line value rest (rw no at there)))) (cases_Bool (eqb entry.0.0 line.0))

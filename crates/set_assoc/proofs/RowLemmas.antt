@@ -13,7 +13,8 @@ use Rattle.set_assoc.specs.Places.{place_of, ArePlaces}
 use Rattle.set_assoc.specs.declared.placed.Placed.{Placed}
 use Rattle.set_assoc.specs.Entries.{lookup, without, replaced, touched, StandsAt}
 use Rattle.set_assoc.proofs.AgeLemmas.{place_is, AreAges-found, AreAges-raised, AreAges-lowered, AreAges-more, raised_place, raised_young, raised_old, lowered_place, lowered_young, lowered_old, more_place}
-use Rattle.set_assoc.proofs.EntryLemmas.{stands_at, is_absent, absent_parts, line_by_number, lookup-without_absent, lookup-replaced_absent, lookup-take_absent}
+use Rattle.conda_base.proofs.LineLemmas.{line_by_number}
+use Rattle.set_assoc.proofs.EntryLemmas.{stands_at, is_absent, absent_parts, lookup-without_absent, lookup-replaced_absent, lookup-take_absent}
 
 slice_get_within : {A : Type 0} (xs : List A) (i : ℕ) (d : A) → i < length xs → slice_get xs i ≡ Some (get_or xs i d)
 slice_get_within [] i d within = absurd (omega arith)

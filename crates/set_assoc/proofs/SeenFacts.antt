@@ -10,9 +10,10 @@ use Rattle.std.proofs.lemmas.Bool.{cases_Bool, eqb-true}
 use Rattle.conda_base.specs.declared.Line.{Line}
 use Rattle.set_assoc.specs.declared.placed.Placed.{Placed}
 use Rattle.set_assoc.specs.Entries.{lookup, without, replaced, touched, AreEntries}
-use Rattle.set_assoc.specs.SetLists.{SetLists, AreSets, set_of, list_of, with_list}
+use Rattle.set_assoc.specs.SetLists.{SetLists, AreSets, set_of, list_of, with_list, IsSets}
 use Rattle.set_assoc.specs.Seen.{seen_list, seen_through, without_places}
-use Rattle.set_assoc.proofs.EntryLemmas.{absent_parts, line_by_number}
+use Rattle.conda_base.proofs.LineLemmas.{line_by_number}
+use Rattle.set_assoc.proofs.EntryLemmas.{absent_parts}
 
 module _ {T : Type 0} where
   pub touched_some : (l : Line) (value : T) (entries : List (Line × T)) → lookup l entries ≡ Some value → touched l entries ≡ (l, value) ∷ without l entries
@@ -104,7 +105,7 @@ module _ {A B : Type 0} where
         rw (get_or-map_within (seen_list f) lists k [] d inside) (let same : length (seen_list f (get_or lists k [])) ≡ length (get_or lists k []) = length-map (get_or lists k []) (λ e. (e.0, f e.0 e.1)) in rw same (are.short k [] inside));
   }
 
-  pub IsSets-seen : (f : Line → A → B) (sets : SetLists A) → AreSets (length sets.lists) sets.ways sets.lists → AreSets (length (seen_through f sets).lists) (seen_through f sets).ways (seen_through f sets).lists
+  pub IsSets-seen : (f : Line → A → B) (sets : SetLists A) → IsSets sets → IsSets (seen_through f sets)
   IsSets-seen f sets are = rw (length-map sets.lists (seen_list f)) (AreSets-seen f (length sets.lists) sets.ways sets.lists are)
 
   pub replicate-seen : (f : Line → A → B) (n : ℕ) → map (seen_list f) (replicate n []) ≡ replicate n []
@@ -127,7 +128,7 @@ module _ {T : Type 0} where
       no_value None at = refl
       no_value (Some value) at = absurd cc
 
-  pub sets_seen : (sets : SetLists (Placed T)) → AreSets (length sets.lists) sets.ways sets.lists → AreSets (length (without_places sets).lists) (without_places sets).ways (without_places sets).lists
+  pub sets_seen : (sets : SetLists (Placed T)) → IsSets sets → IsSets (without_places sets)
   sets_seen sets are = IsSets-seen (λ _ kept. kept.value) sets are
 
   pub replaced_seen : (sets : SetLists (Placed T)) (l : Line) (v : Placed T) → without_places (with_list sets l (replaced l v (list_of sets l))) ≡ with_list (without_places sets) l (replaced l v.value (list_of (without_places sets) l))

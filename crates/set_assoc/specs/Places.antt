@@ -1,9 +1,9 @@
 -- Lines that have places in their sets.
-use Rattle.std.specs.Prelude.{ℕ, ◌≡◌, ◌<◌, List, [], Option, Some, length, slice_index_or}
+use Rattle.std.specs.Prelude.{ℕ, ◌≡◌, ◌<◌, List, [], Option, Some, slice_index_or}
 use Rattle.std.specs.Option.{option_map}
 use Rattle.conda_base.specs.declared.Line.{Line}
 use Rattle.set_assoc.specs.Entries.{lookup}
-use Rattle.set_assoc.specs.SetLists.{SetLists, AreSets}
+use Rattle.set_assoc.specs.SetLists.{SetLists, IsSets}
 use Rattle.set_assoc.specs.declared.placed.Placed.{Placed}
 
 module _ {T : Type 0} where
@@ -21,5 +21,5 @@ module _ {T : Type 0} where
 
   -- sets whose lines have places
   pub record ArePlacedSets (s : SetLists (Placed T)) : Type 0 where
-    pub sets : AreSets (length s.lists) s.ways s.lists
+    pub sets : IsSets s
     pub places : (k : ℕ) → ArePlaces (slice_index_or s.lists k [])

@@ -18,8 +18,8 @@ ghost use Rattle.std.specs.Prelude.{
   replicate,
 };
 ghost use Rattle.set_assoc.specs.Places.{ArePlacedSets, place_of, placed};
-ghost use Rattle.set_assoc.specs.Entries.{lookup, without, replaced, touched};
-ghost use Rattle.set_assoc.specs.SetLists.{SetLists, set_of, list_of, with_list, AreSets};
+ghost use Rattle.set_assoc.specs.Entries.{without, replaced, touched};
+ghost use Rattle.set_assoc.specs.SetLists.{find, list_of, set_of, with_list};
 
 use crate::placed::Placed;
 use crate::row::Row;
@@ -59,7 +59,8 @@ impl<T: Copy> PlacedSets<T> {
         requires sets { 0 < sets }
         requires some_ways { 0 < ways }
         requires few_ways { ways ≤ 8 }
-        ensures { IfOk result (λ s. s ≡ record { ways = ways; lists = replicate sets [] }) }
+        ensures empty { IfOk result (λ s. s ≡ record { ways = ways; lists = replicate sets [] }) }
+        ensures kept { IfOk result (λ s. ArePlacedSets s) }
     {
         let mut rows = Vec::with_capacity(alloc, sets as usize)?;
         for _ in 0..sets {
@@ -78,7 +79,7 @@ impl<T: Copy> PlacedSets<T> {
 
     /// The value of a line, and its place. None exactly where it isn't there.
     pub fn find(&self, line: Line) -> Option<Placed<T>>
-        ensures value { result ≡ lookup line (list_of self.now line) }
+        ensures value { result ≡ find self.now line }
         ensures kept { ArePlacedSets self.now }
     {
         let set = self.set_of(line);
@@ -120,7 +121,7 @@ impl<T: Copy> PlacedSets<T> {
     /// Puts a line that isn't there in front of its set, and answers its place. The last line leaves where the set was
     /// full, and the new one has its place.
     pub fn add(&mut self, line: Line, value: T) -> usize
-        requires { lookup line (list_of self.old line) ≡ None }
+        requires { find self.old line ≡ None }
         ensures front { let list = (line, placed value result) ∷ list_of self.old line in
             self.new ≡ with_list self.old line (take self.old.ways list) }
         ensures kept { ArePlacedSets self.new }

@@ -16,8 +16,8 @@ ghost use Rattle.std.specs.Prelude.{
   is_some,
   replicate,
 };
-ghost use Rattle.set_assoc.specs.Entries.{lookup, without, replaced, touched};
-ghost use Rattle.set_assoc.specs.SetLists.{SetLists, set_of, list_of, with_list, AreSets};
+ghost use Rattle.set_assoc.specs.Entries.{without, replaced, touched};
+ghost use Rattle.set_assoc.specs.SetLists.{IsSets, find, list_of, with_list};
 
 use crate::placed_sets::PlacedSets;
 use conda_base::Line;
@@ -47,7 +47,8 @@ impl<T: Copy> Sets<T> {
         requires sets { 0 < sets }
         requires some_ways { 0 < ways }
         requires few_ways { ways ≤ 8 }
-        ensures { IfOk result (λ s. s ≡ record { ways = ways; lists = replicate sets [] }) }
+        ensures empty { IfOk result (λ s. s ≡ record { ways = ways; lists = replicate sets [] }) }
+        ensures kept { IfOk result (λ s. IsSets s) }
     {
         let lines = PlacedSets::new(alloc, sets, ways)?;
         Ok(Sets { lines })
@@ -55,8 +56,8 @@ impl<T: Copy> Sets<T> {
 
     /// The value of a line. The order stays.
     pub fn peek(&self, line: Line) -> Option<T>
-        ensures value { result ≡ lookup line (list_of self.now line) }
-        ensures sets { AreSets (length self.now.lists) self.now.ways self.now.lists }
+        ensures value { result ≡ find self.now line }
+        ensures sets { IsSets self.now }
     {
         match self.lines.find(line) {
             Some(kept) => Some(kept.value),
@@ -66,10 +67,10 @@ impl<T: Copy> Sets<T> {
 
     /// Gives a line that is there a new value, and hands out the old one. The order stays.
     pub fn replace(&mut self, line: Line, value: T) -> Option<T>
-        ensures old { result ≡ lookup line (list_of self.old line) }
+        ensures old { result ≡ find self.old line }
         ensures written { let list = replaced line value (list_of self.old line) in
             self.new ≡ with_list self.old line list }
-        ensures kept { AreSets (length self.new.lists) self.new.ways self.new.lists }
+        ensures kept { IsSets self.new }
     {
         match self.lines.find(line) {
             Some(kept) => {
@@ -82,9 +83,9 @@ impl<T: Copy> Sets<T> {
 
     /// Brings a line to the front of its set. False exactly where it isn't there.
     pub fn touch(&mut self, line: Line) -> bool
-        ensures found { result ≡ is_some (lookup line (list_of self.old line)) }
+        ensures found { result ≡ is_some (find self.old line) }
         ensures front { self.new ≡ with_list self.old line (touched line (list_of self.old line)) }
-        ensures kept { AreSets (length self.new.lists) self.new.ways self.new.lists }
+        ensures kept { IsSets self.new }
     {
         match self.lines.find(line) {
             Some(kept) => {
@@ -97,11 +98,11 @@ impl<T: Copy> Sets<T> {
 
     /// Puts a line that isn't there in front of its set. The last line leaves where the set was full.
     pub fn add(&mut self, line: Line, value: T) -> Option<(Line, T)>
-        requires { lookup line (list_of self.old line) ≡ None }
+        requires { find self.old line ≡ None }
         ensures last { result ≡ slice_get ((line, value) ∷ list_of self.old line) self.old.ways }
         ensures front { let list = (line, value) ∷ list_of self.old line in
             self.new ≡ with_list self.old line (take self.old.ways list) }
-        ensures kept { AreSets (length self.new.lists) self.new.ways self.new.lists }
+        ensures kept { IsSets self.new }
     {
         let last = self.lines.last(line);
         self.lines.add(line, value);
@@ -110,10 +111,10 @@ impl<T: Copy> Sets<T> {
 
     /// Takes a line out, and hands out its value.
     pub fn remove(&mut self, line: Line) -> Option<T>
-        ensures old { result ≡ lookup line (list_of self.old line) }
+        ensures old { result ≡ find self.old line }
         ensures removed { let list = without line (list_of self.old line) in
             self.new ≡ with_list self.old line list }
-        ensures kept { AreSets (length self.new.lists) self.new.ways self.new.lists }
+        ensures kept { IsSets self.new }
     {
         match self.lines.find(line) {
             Some(kept) => {
@@ -135,7 +136,7 @@ impl<T: Copy> Sets<T> {
     pub fn clear(&mut self)
         ensures empty { let lists = replicate (length self.old.lists) [] in
             self.new ≡ record { ways = self.old.ways; lists = lists } }
-        ensures kept { AreSets (length self.new.lists) self.new.ways self.new.lists }
+        ensures kept { IsSets self.new }
     {
         self.lines.clear();
     }

@@ -16,7 +16,7 @@ invariant_of-result c =
     let bytes : List ℕ = c.args.code.now.bytes in
     let is : IsMade p n base bytes c.args.holders = record {
       memory = c.in_ok-memory.ensures ∙ ap (λ (b : ℕ). record { line_bytes = n; base = b; bytes = c.bytes-bytes.result.now }) c.base-base.ensures.value ∙ ap (λ (bs : List ℕ). record { line_bytes = n; base = base; bytes = bs }) c.bytes-bytes.ensures.value;
-      rows = c.in_ok-directory.ensures ∙ ap (λ (f : ℕ). record { first = f; rows = replicate (length c.bytes-bytes.result.now / n) Nobody }) (c.line_of.ensures ∙ ap (λ (b : ℕ). b / n) c.base-base.ensures.value) ∙
+      rows = c.in_ok-directory.ensures.empty ∙ ap (λ (f : ℕ). record { first = f; rows = replicate (length c.bytes-bytes.result.now / n) Nobody }) (c.line_of.ensures ∙ ap (λ (b : ℕ). b / n) c.base-base.ensures.value) ∙
           ap (λ (bs : List ℕ). record { first = base / n; rows = replicate (length bs / n) Nobody }) c.bytes-bytes.ensures.value;
       caches = c.in_ok-caches.ensures;
     } in
@@ -34,7 +34,7 @@ returns c =
     let bytes : List ℕ = c.args.code.now.bytes in
     let is : IsMade p n base bytes c.args.holders = record {
       memory = c.in_ok-memory.ensures ∙ ap (λ (b : ℕ). record { line_bytes = n; base = b; bytes = c.bytes-bytes.result.now }) c.base-base.ensures.value ∙ ap (λ (bs : List ℕ). record { line_bytes = n; base = base; bytes = bs }) c.bytes-bytes.ensures.value;
-      rows = c.in_ok-directory.ensures ∙ ap (λ (f : ℕ). record { first = f; rows = replicate (length c.bytes-bytes.result.now / n) Nobody }) (c.line_of.ensures ∙ ap (λ (b : ℕ). b / n) c.base-base.ensures.value) ∙
+      rows = c.in_ok-directory.ensures.empty ∙ ap (λ (f : ℕ). record { first = f; rows = replicate (length c.bytes-bytes.result.now / n) Nobody }) (c.line_of.ensures ∙ ap (λ (b : ℕ). b / n) c.base-base.ensures.value) ∙
           ap (λ (bs : List ℕ). record { first = base / n; rows = replicate (length bs / n) Nobody }) c.bytes-bytes.ensures.value;
       caches = c.in_ok-caches.ensures;
     } in

@@ -3,7 +3,7 @@ use Rattle.std.specs.Option.{option_map}
 use Rattle.conda_base.specs.Bytes.{stored}
 use Rattle.conda_base.specs.declared.Mesi.{Mesi}
 use Rattle.set_assoc.specs.declared.placed.Placed.{Placed}
-use Rattle.cpu_cache.specs.Find.{find}
+use Rattle.set_assoc.specs.SetLists.{find}
 use Rattle.cpu_cache.specs.Slots.{contents_in}
 use Rattle.cpu_cache.proofs.PlaceFacts.{place_below}
 use Rattle.cpu_cache.proofs.StoreFacts.{IsStore-changed, IsStore-written}

@@ -8,7 +8,10 @@ invariant_of-result c =
     let items : c.in_ok-rows.rows.items ≡ replicate c.args.count 0 = search rules in
     rw (ap unpacked_rows items ∙ rows_none c.args.count) (AreRows-none c.args.count)
 
-pub returns : goal.returns
-returns c =
+pub returns-clause-empty : goal.returns-clause-empty
+returns-clause-empty c =
     let items : c.in_ok-rows.rows.items ≡ replicate c.args.count 0 = search rules in
     ap (λ rows. record { first = c.args.first.0; rows = rows }) (ap unpacked_rows items ∙ rows_none c.args.count)
+
+pub returns-clause-kept : goal.returns-clause-kept
+returns-clause-kept c = invariant_of-result c
