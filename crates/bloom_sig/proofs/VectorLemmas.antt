@@ -46,9 +46,6 @@ apart-append first second from middle until a b up on one two = (
       (two.1 (λ k above below. apart k (omega arith) below)),
 )
 
-pub apart_none : (at : ℕ) (a b : List ℕ) → ◌≡◌ {A = ℕ} 0 0 ↔ AreApart at at a b
-apart_none at a b = (λ e k above below. absurd (omega arith), λ apart. refl)
-
 -- one word
 pub apart_word : (k : ℕ) (a b : List ℕ) → (bit_and (get_or a k 0) (get_or b k 0) ≡ 0) ↔ AreApart k (k + 1) a b
 apart_word k a b = (

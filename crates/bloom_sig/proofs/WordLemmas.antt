@@ -1,5 +1,5 @@
 -- Words of bits, and the truth values that they are seen as.
-use Rattle.std.proofs.Common.{◌≡◌, ◌≢◌, ℕ, zero, suc, ◌+◌, ◌*◌, ◌/◌, ◌%◌, ◌^◌, ◌<◌, ◌≤◌, Bool, true, false, ◌||◌, List, [], ◌∷◌, length, get_or, set, replicate, eqb, sym, ap, ◌∙◌, ◌↔◌, refl, ⊎_elim, arith}
+use Rattle.std.proofs.Common.{◌≡◌, ◌≢◌, ℕ, zero, suc, ◌*◌, ◌/◌, ◌%◌, ◌^◌, ◌<◌, ◌≤◌, Bool, true, false, ◌||◌, List, [], ◌∷◌, length, get_or, set, replicate, eqb, sym, ap, ◌∙◌, ◌↔◌, refl, ⊎_elim, arith}
 use Rattle.std.specs.Prelude.{bit_or}
 use Rattle.std.specs.Int.{bit_at, w64}
 use Rattle.std.proofs.lemmas.List.{same_lists, get_or-set_same, get_or-set_other, length-set, length-replicate, get_or-replicate}
@@ -33,9 +33,6 @@ marks_zero bound count =
     (λ k d inside.
     let small : k < bound = omega (arith, length-marks bound (replicate count 0)) in
     mark_at bound (replicate count 0) k d small ∙ ap (λ b. eqb b 1) (zero_bit count k) ∙ sym (get_or-replicate bound k false d small))
-
-pub zero_words : (bound count : ℕ) → 0 < bound → count ≡ (bound + 63) / 64 → AreWords bound (replicate count 0)
-zero_words bound count some is = record { some = some; count = length-replicate count 0 ∙ is; rest = λ n past. zero_bit count n }
 
 -- ---- a bit that is set
 
