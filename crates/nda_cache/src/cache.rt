@@ -111,8 +111,8 @@ impl NdaCache {
         Stored::Done
     }
 
-    // The place of a line among the lines of the try.
-    fn find(&self, l: Line) -> Option<usize>
+    /// Searches for a line: its place among the lines of the try, where it is there.
+    pub fn find(&self, l: Line) -> Option<usize>
         ensures found { IsFound self.now l result }
         ensures kept { IsTried self.now }
     {
@@ -139,18 +139,38 @@ impl NdaCache {
         ensures kept { IsTried self.now }
     {
         let line_bytes = self.line_bytes;
-        self.look_at(line_of(addr, line_bytes), offset_of(addr, line_bytes), size)
+        let found = self.find(line_of(addr, line_bytes));
+        self.look_found(found, addr, size)
     }
 
-    // Looks up the bytes of an access to a line.
-    fn look_at(&self, l: Line, offset: usize, size: u8) -> Look
+    /// Looks up the bytes of a load whose line was searched for.
+    pub fn look_found(&self, found: Option<usize>, addr: u32, size: u8) -> Look
+        requires size { IsAccessSize size }
+        requires aligned { addr % size ≡ 0 }
+        requires found { IsFound self.now (line_at self.now addr) found }
+        ensures looks { Looks self.now (line_at self.now addr)
+            (line_offset addr self.now.line_bytes) size result }
+        ensures kept { IsTried self.now }
+    {
+        let line_bytes = self.line_bytes;
+        self.look_at(
+            found,
+            line_of(addr, line_bytes),
+            offset_of(addr, line_bytes),
+            size,
+        )
+    }
+
+    // Looks up the bytes of an access to a line that was searched for.
+    fn look_at(&self, found: Option<usize>, l: Line, offset: usize, size: u8) -> Look
         requires size { IsAccessSize size }
         requires within { offset + size ≤ self.now.line_bytes }
+        requires found { IsFound self.now l found }
         ensures looks { Looks self.now l offset size result }
         ensures kept { IsTried self.now }
     {
-        match self.index.peek(l) {
-            Some(place) => look_in(&self.lines[place as usize].1, offset, size),
+        match found {
+            Some(place) => look_in(&self.lines[place].1, offset, size),
             None => {
                 if self.index.is_full(l) {
                     Look::Full
@@ -259,8 +279,23 @@ impl NdaCache {
         ensures kept { IsTried self.new }
     {
         let found = self.find(l);
+        let _place = self.fill_found(found, l, from);
+    }
+
+    /// Fills a line that was searched for as `fill` does, and gives its place.
+    pub fn fill_found(&mut self, found: Option<usize>, l: Line, from: &[u8; 128]) -> usize
+        requires room { HasRoom self.old l }
+        requires unfilled { (known_of self.old l).filled ≡ false }
+        requires found { IsFound self.old l found }
+        ensures filled { let line = filled_from self.old.line_bytes (known_of self.old l) from.now
+            in
+            self.new ≡ record self.old { lines = put_line l line self.old.lines } }
+        ensures place { IsFound self.new l (Some result) }
+        ensures kept { IsTried self.new }
+    {
         let place = self.place_for(l, found);
         fill_line(&mut self.lines[place], &from[..self.line_bytes as usize]);
+        place
     }
 
     /// The little-endian number of 1, 2 or 4 bytes at an aligned address, whose bytes were filled or stored.
@@ -274,6 +309,20 @@ impl NdaCache {
     {
         let line_bytes = self.line_bytes;
         self.read_at(line_of(addr, line_bytes), offset_of(addr, line_bytes), size)
+    }
+
+    /// Reads as `read` does, in the line at a place that a search found.
+    pub fn read_found(&self, place: usize, addr: u32, size: u8) -> u32
+        requires size { IsAccessSize size }
+        requires aligned { addr % size ≡ 0 }
+        requires found { IsFound self.now (line_at self.now addr) (Some place) }
+        requires known { ((known_of self.now (line_at self.now addr)).filled ≡ true)
+            ⊎ Covers (known_of self.now (line_at self.now addr)).mask (line_offset addr self.now.line_bytes) size }
+        ensures { result ≡ value_at (known_of self.now (line_at self.now addr)).bytes
+            (line_offset addr self.now.line_bytes) size }
+    {
+        let offset = offset_of(addr, self.line_bytes);
+        self.lines[place].1.get(offset, size)
     }
 
     // The number at a place in a line, whose bytes were filled or stored.
@@ -423,6 +472,18 @@ mod tests {
         cache.fill(Line(0), &[7; 128]);
         assert!(rt; cache.filled(Line(0)));
         assert_eq!(rt; cache.read(4, 4), 0x0707_abcd);
+        Ok(())
+    }
+
+    #[test]
+    fn a_missing_line_is_filled_after_one_search(rt: HostRuntime) -> Result<(), AllocError> {
+        let mut cache = NdaCache::new(rt.alloc(), 32, 1, 2)?;
+        let found = cache.find(Line(0));
+        assert_eq!(rt; cache.look_found(found, 4, 4), Look::Missing);
+        assert!(rt; cache.room(Line(0)));
+        assert!(rt; !cache.filled(Line(0)));
+        let place = cache.fill_found(found, Line(0), &[7; 128]);
+        assert_eq!(rt; cache.read_found(place, 4, 4), 0x0707_0707);
         Ok(())
     }
 

@@ -7,13 +7,14 @@ use Rattle.conda_base.specs.declared.line.Line.{Line}
 use Rattle.write_masks.specs.Marks.{Covers}
 use Rattle.write_masks.specs.declared.masked.Masked.{Masked}
 use Rattle.nda_cache.specs.Looks.{NeedsFill as NeedsFillAt, Looks as LooksAt}
-use Rattle.nda_cache.specs.Tried.{Tried, known_of, put_line, filled_from}
+use Rattle.nda_cache.specs.Tried.{Tried, IsFound, known_of, put_line, filled_from}
 use Rattle.nda_cache.specs.declared.cache.Look.{Look}
 use Rattle.nda_cache.specs.declared.cache.Look.TheVariants.{Known, Missing, Full}
 use Rattle.bloom_sig.specs.Signatures.{Sets, inserted}
 use Rattle.line_memory.specs.Backing.{BackingView, copy_of}
 use Rattle.traffic_trace.specs.declared.note.Note.{Note}
 use Rattle.try_runs.specs.Fills.{corefill_notes}
+use Rattle.portion_ctl.specs.declared.accesses.Sought.{Sought}
 
 -- what is known of the line of an address
 abbrev pub line_known : Tried → ℕ → Masked
@@ -33,6 +34,11 @@ HasValue cache addr size value =
 abbrev pub NeedsFill : Tried → ℕ → ℕ → Type 0
 NeedsFill cache addr size =
     NeedsFillAt cache (line_at cache.line_bytes addr) (line_offset addr cache.line_bytes) size
+
+-- the line of these bytes, and what a search for it has found
+pub record IsSought (cache : Tried) (sought : Sought) : Type 0 where
+  pub line : sought.l ≡ line_at cache.line_bytes sought.addr
+  pub found : IsFound cache sought.l sought.found
 
 -- what a look at a load's bytes tells
 abbrev pub Looks : Tried → ℕ → ℕ → Look → Type 0

@@ -7,7 +7,7 @@ ghost use Rattle.nda_cache.specs.Tried.{HasRoom, IsTried, Writes};
 ghost use Rattle.line_memory.specs.Notes.{all_noted};
 ghost use Rattle.try_runs.specs.Fills.{corefill_notes};
 ghost use Rattle.portion_ctl.specs.Bodies.{IsAccessIn, Puts};
-ghost use Rattle.portion_ctl.specs.Looks.{HasValue, IsRoom, Looks, NeedsFill, Takes, end_of_load, take_notes, with_fill};
+ghost use Rattle.portion_ctl.specs.Looks.{HasValue, IsRoom, IsSought, Looks, NeedsFill, Takes, end_of_load, take_notes, with_fill};
 
 use bloom_sig::Signature;
 use conda_base::Line;
@@ -39,33 +39,40 @@ pub fn load_end(look: Look, reads: &Signature, limit: u32, l: Line) -> Option<u8
     }
 }
 
-// Takes memory's copy of a line that a load needs, and gives the load's value.
+// The bytes of a load, and where a search found their line.
+#[derive(Clone, Copy, Debug, PartialEq, Eq)]
+pub struct Sought {
+    pub l: Line,
+    pub found: Option<usize>,
+    pub addr: u32,
+    pub size: u8,
+}
+
+// Takes memory's copy of a line that a load needs, and gives the load's value, with no search.
 pub fn fetch<B: Backing>(
     core: u8,
     cache: &mut NdaCache,
     mem: &B,
     log: &mut Traffic,
-    l: Line,
-    addr: u32,
-    size: u8,
+    sought: Sought,
 ) -> u32
-    requires access { IsAccessIn (B.shown mem.now) cache.old.line_bytes addr size }
-    requires line { l ≡ line_at cache.old.line_bytes addr }
-    requires needed { NeedsFill cache.old addr size }
-    ensures cache { cache.new ≡ with_fill (B.shown mem.now) cache.old l }
-    ensures value { HasValue cache.new addr size result }
-    ensures notes { log.new ≡ all_noted log.old (corefill_notes core (Some l)) }
+    requires access { IsAccessIn (B.shown mem.now) cache.old.line_bytes sought.addr sought.size }
+    requires sought { IsSought cache.old sought }
+    requires needed { NeedsFill cache.old sought.addr sought.size }
+    ensures cache { cache.new ≡ with_fill (B.shown mem.now) cache.old sought.l }
+    ensures value { HasValue cache.new sought.addr sought.size result }
+    ensures notes { log.new ≡ all_noted log.old (corefill_notes core (Some sought.l)) }
 {
     let mut copy = [0; 128];
     let _whole_lines = mem.line_bytes();
-    mem.copy(l, &mut copy);
-    cache.fill(l, &copy);
+    mem.copy(sought.l, &mut copy);
+    let place = cache.fill_found(sought.found, sought.l, &copy);
     log.note(Note {
         kind: Kind::CoreFill,
         who: core,
-        line: l,
+        line: sought.l,
     });
-    cache.read(addr, size)
+    cache.read_found(place, sought.addr, sought.size)
 }
 
 // Makes a load that no cause stands against.
@@ -76,23 +83,21 @@ pub fn take<B: Backing>(
     mem: &B,
     log: &mut Traffic,
     look: Look,
-    l: Line,
-    addr: u32,
-    size: u8,
+    sought: Sought,
 ) -> u32
-    requires access { IsAccessIn (B.shown mem.now) cache.old.line_bytes addr size }
-    requires line { l ≡ line_at cache.old.line_bytes addr }
-    requires looks { Looks cache.old addr size look }
+    requires access { IsAccessIn (B.shown mem.now) cache.old.line_bytes sought.addr sought.size }
+    requires sought { IsSought cache.old sought }
+    requires looks { Looks cache.old sought.addr sought.size look }
     requires room { IsRoom look }
-    ensures takes { Takes (B.shown mem.now) cache.old reads.old l addr size look cache.new
-        reads.new result }
-    ensures notes { log.new ≡ all_noted log.old (take_notes core l look) }
+    ensures takes { Takes (B.shown mem.now) cache.old reads.old sought.l sought.addr sought.size
+        look cache.new reads.new result }
+    ensures notes { log.new ≡ all_noted log.old (take_notes core sought.l look) }
 {
     match look {
         Look::Known(value) => value,
         Look::Missing => {
-            reads.insert(l);
-            fetch(core, cache, mem, log, l, addr, size)
+            reads.insert(sought.l);
+            fetch(core, cache, mem, log, sought)
         }
         Look::Full => 0,
     }

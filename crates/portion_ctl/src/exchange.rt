@@ -5,7 +5,7 @@ ghost use Rattle.rv32_hart.specs.declared.act.Access.TheVariants as Access_is;
 ghost use Rattle.rv32_hart.specs.Act.{is_call_access};
 ghost use Rattle.portion_ctl.specs.Bodies.{AccessIn, ChangesLines, ExchangesAll, HasParts, IsAccessIn, StoresAll};
 
-use crate::accesses::{fetch, is_at_limit, load_end, put, take};
+use crate::accesses::{Sought, fetch, is_at_limit, load_end, put, take};
 use crate::body::Body;
 use conda_base::line_of;
 use line_memory::Backing;
@@ -31,14 +31,21 @@ pub fn load<B: Backing>(
     ensures parts { HasParts b.new }
 {
     let l = line_of(addr, b.limits.line_bytes);
-    match b.cache.look(addr, size) {
+    let found = b.cache.find(l);
+    match b.cache.look_found(found, addr, size) {
         Look::Known(value) => Ok(value),
         Look::Full => Err(4),
         Look::Missing => {
             if !b.read_set.insert_up_to(l, b.limits.read_limit) {
                 return Err(5);
             }
-            Ok(fetch(b.core, &mut b.cache, mem, log, l, addr, size))
+            let sought = Sought {
+                l,
+                found,
+                addr,
+                size,
+            };
+            Ok(fetch(b.core, &mut b.cache, mem, log, sought))
         }
     }
 }
@@ -82,7 +89,8 @@ pub fn atomic<B: Backing>(
     ensures parts { HasParts b.new }
 {
     let l = line_of(addr, b.limits.line_bytes);
-    let look = b.cache.look(addr, 4);
+    let found = b.cache.find(l);
+    let look = b.cache.look_found(found, addr, 4);
     if let Some(cause) = load_end(look, &b.read_set, b.limits.read_limit, l) {
         return Err(cause);
     }
@@ -96,9 +104,12 @@ pub fn atomic<B: Backing>(
         mem,
         log,
         look,
-        l,
-        addr,
-        4,
+        Sought {
+            l,
+            found,
+            addr,
+            size: 4,
+        },
     );
     put(&mut b.cache, l, addr, 4, amo_result(op, old, value));
     Ok(old)

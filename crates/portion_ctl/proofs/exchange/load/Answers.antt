@@ -1,4 +1,6 @@
-use Rattle.std.proofs.Common.{refl, sym, ap, None, Some}
+use Rattle.std.proofs.Common.{refl, sym, ap, subst, None, Some}
+use Rattle.conda_base.specs.declared.Line.{Line}
+use Rattle.nda_cache.specs.Tried.{IsFound}
 use Rattle.nda_cache.specs.declared.cache.Look.TheVariants.{Known, Missing, Full}
 use Rattle.bloom_sig.specs.Signatures.{Sets}
 use Rattle.portion_ctl.specs.Looks.{end_of_load}
@@ -68,3 +70,8 @@ returns-else-not-insert_up_to-clause-parts g c =
     let taken = taken-up_to c.args.b.now.read_set c.insert_up_to.new.self c.line_of-l.result c.args.b.now.limits.read_limit c.insert_up_to.result c.insert_up_to.ensures.sets c.insert_up_to.ensures.answer c.if-not-insert_up_to.false in
     load-parts (g.B.Backing.shown c.args.mem.now) c.args.b.now c.line_of-l.result c.args.addr c.args.size c.fetch.new.cache c.insert_up_to.new.self c.fetch.result c.requires.parts
     (c.fetch.ensures.cache, taken.1, c.fetch.ensures.value)
+
+pub look_found-requires-clause-found : goal.look_found-requires-clause-found
+look_found-requires-clause-found g c =
+    let P : Line → Type 0 = λ k. IsFound c.args.b.now.cache k c.find-found.result in
+    subst P (line-at c.args.b.now c.line_of-l.result c.args.addr c.requires.parts c.line_of-l.ensures) c.find-found.ensures.found
