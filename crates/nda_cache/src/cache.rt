@@ -107,7 +107,7 @@ impl NdaCache {
         if refused {
             return Stored::Refused;
         }
-        self.write_found(found, l, offset, size, value);
+        self.write_at(found, l, offset, size, value);
         Stored::Done
     }
 
@@ -347,13 +347,28 @@ impl NdaCache {
         ensures kept { IsTried self.new }
     {
         let line_bytes = self.line_bytes;
+        let found = self.find(line_of(addr, line_bytes));
+        self.write_found(found, addr, size, value);
+    }
+
+    /// Stores as `write` does, into a line that was searched for.
+    pub fn write_found(&mut self, found: Option<usize>, addr: u32, size: u8, value: u32)
+        requires size { IsAccessSize size }
+        requires aligned { addr % size ≡ 0 }
+        requires room { HasRoom self.old (line_at self.old addr) }
+        requires found { IsFound self.old (line_at self.old addr) found }
+        ensures writes { Writes self.old self.new (line_at self.old addr)
+            (line_offset addr self.old.line_bytes) size value }
+        ensures tried { IsTried self.old }
+        ensures kept { IsTried self.new }
+    {
+        let line_bytes = self.line_bytes;
         let l = line_of(addr, line_bytes);
-        let found = self.find(l);
-        self.write_found(found, l, offset_of(addr, line_bytes), size, value);
+        self.write_at(found, l, offset_of(addr, line_bytes), size, value);
     }
 
     // Stores a number at a place in a line that was searched for, and marks its bytes.
-    fn write_found(&mut self, found: Option<usize>, l: Line, offset: usize, size: u8, value: u32)
+    fn write_at(&mut self, found: Option<usize>, l: Line, offset: usize, size: u8, value: u32)
         requires size { IsAccessSize size }
         requires within { offset + size ≤ self.old.line_bytes }
         requires room { HasRoom self.old l }
@@ -484,6 +499,8 @@ mod tests {
         assert!(rt; !cache.filled(Line(0)));
         let place = cache.fill_found(found, Line(0), &[7; 128]);
         assert_eq!(rt; cache.read_found(place, 4, 4), 0x0707_0707);
+        cache.write_found(Some(place), 4, 1, 3);
+        assert_eq!(rt; cache.look(4, 4), Look::Known(0x0707_0703));
         Ok(())
     }
 

@@ -3,7 +3,7 @@ ghost use Rattle.std.specs.Prelude.{◌≡◌, ◌+◌, ◌%◌, ◌≤◌, ◌=
 ghost use Rattle.conda_base.specs.Lines.{IsAccessSize, line_offset};
 ghost use Rattle.conda_base.specs.LineLists.{line_at};
 ghost use Rattle.bloom_sig.specs.Signatures.{inserted, is_full_for, is_member};
-ghost use Rattle.nda_cache.specs.Tried.{HasRoom, IsTried, Writes};
+ghost use Rattle.nda_cache.specs.Tried.{HasRoom, IsFound, IsTried, Writes};
 ghost use Rattle.line_memory.specs.Notes.{all_noted};
 ghost use Rattle.try_runs.specs.Fills.{corefill_notes};
 ghost use Rattle.portion_ctl.specs.Bodies.{IsAccessIn, Puts};
@@ -40,7 +40,7 @@ pub fn load_end(look: Look, reads: &Signature, limit: u32, l: Line) -> Option<u8
 }
 
 // The bytes of a load, and where a search found their line.
-#[derive(Clone, Copy, Debug, PartialEq, Eq)]
+#[derive(Clone, Copy)]
 pub struct Sought {
     pub l: Line,
     pub found: Option<usize>,
@@ -48,19 +48,27 @@ pub struct Sought {
     pub size: u8,
 }
 
-// Takes memory's copy of a line that a load needs, and gives the load's value, with no search.
+// The value of a load, and where its line now is.
+#[derive(Clone, Copy)]
+pub struct Taken {
+    pub value: u32,
+    pub found: Option<usize>,
+}
+
+// Takes memory's copy of a line that a load needs, and gives the load's value.
 pub fn fetch<B: Backing>(
     core: u8,
     cache: &mut NdaCache,
     mem: &B,
     log: &mut Traffic,
     sought: Sought,
-) -> u32
+) -> Taken
     requires access { IsAccessIn (B.shown mem.now) cache.old.line_bytes sought.addr sought.size }
     requires sought { IsSought cache.old sought }
     requires needed { NeedsFill cache.old sought.addr sought.size }
     ensures cache { cache.new ≡ with_fill (B.shown mem.now) cache.old sought.l }
-    ensures value { HasValue cache.new sought.addr sought.size result }
+    ensures value { HasValue cache.new sought.addr sought.size result.value }
+    ensures found { IsFound cache.new sought.l result.found }
     ensures notes { log.new ≡ all_noted log.old (corefill_notes core (Some sought.l)) }
 {
     let mut copy = [0; 128];
@@ -72,7 +80,10 @@ pub fn fetch<B: Backing>(
         who: core,
         line: sought.l,
     });
-    cache.read_found(place, sought.addr, sought.size)
+    Taken {
+        value: cache.read_found(place, sought.addr, sought.size),
+        found: Some(place),
+    }
 }
 
 // Makes a load that no cause stands against.
@@ -84,32 +95,37 @@ pub fn take<B: Backing>(
     log: &mut Traffic,
     look: Look,
     sought: Sought,
-) -> u32
+) -> Taken
     requires access { IsAccessIn (B.shown mem.now) cache.old.line_bytes sought.addr sought.size }
     requires sought { IsSought cache.old sought }
     requires looks { Looks cache.old sought.addr sought.size look }
     requires room { IsRoom look }
     ensures takes { Takes (B.shown mem.now) cache.old reads.old sought.l sought.addr sought.size
-        look cache.new reads.new result }
+        look cache.new reads.new result.value }
+    ensures found { IsFound cache.new sought.l result.found }
     ensures notes { log.new ≡ all_noted log.old (take_notes core sought.l look) }
 {
     match look {
-        Look::Known(value) => value,
+        Look::Known(value) => Taken {
+            value,
+            found: sought.found,
+        },
         Look::Missing => {
             reads.insert(sought.l);
             fetch(core, cache, mem, log, sought)
         }
-        Look::Full => 0,
+        Look::Full => unreachable!(),
     }
 }
 
-// Stores a number into a line that there is room for, with one search.
-pub fn put(cache: &mut NdaCache, l: Line, addr: u32, size: u8, value: u32)
+// Stores a number into a line that was searched for and has room.
+pub fn put(cache: &mut NdaCache, found: Option<usize>, l: Line, addr: u32, size: u8, value: u32)
     requires size { IsAccessSize size }
     requires aligned { addr % size ≡ 0 }
     requires line { l ≡ line_at cache.old.line_bytes addr }
     requires room { HasRoom cache.old l }
+    requires found { IsFound cache.old l found }
     ensures { Puts cache.old cache.new addr size value }
 {
-    let _done = cache.store_unless(addr, size, value, false);
+    cache.write_found(found, addr, size, value);
 }

@@ -45,7 +45,7 @@ pub fn load<B: Backing>(
                 addr,
                 size,
             };
-            Ok(fetch(b.core, &mut b.cache, mem, log, sought))
+            Ok(fetch(b.core, &mut b.cache, mem, log, sought).value)
         }
     }
 }
@@ -97,7 +97,7 @@ pub fn atomic<B: Backing>(
     if !b.write_set.insert_up_to(l, b.limits.write_limit) {
         return Err(6);
     }
-    let old = take(
+    let taken = take(
         b.core,
         &mut b.cache,
         &mut b.read_set,
@@ -111,8 +111,9 @@ pub fn atomic<B: Backing>(
             size: 4,
         },
     );
-    put(&mut b.cache, l, addr, 4, amo_result(op, old, value));
-    Ok(old)
+    let word = amo_result(op, taken.value, value);
+    put(&mut b.cache, taken.found, l, addr, 4, word);
+    Ok(taken.value)
 }
 
 // Makes the access of an act that is no call, and gives the value that it loads, or 0; or the

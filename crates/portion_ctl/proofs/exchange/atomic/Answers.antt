@@ -39,7 +39,7 @@ returns-then-not-insert_up_to-clause-changed g c rd t fills holds =
 pub put-requires-clause-room : goal.put-requires-clause-room
 put-requires-clause-room g c =
     taken-room (g.B.Backing.shown c.args.mem.now) c.args.b.now.cache c.args.b.now.read_set c.line_of-l.result c.args.addr 4 c.look_found-look.result _ _ _
-    (line-at c.args.b.now c.line_of-l.result c.args.addr c.requires.parts c.line_of-l.ensures) c.look_found-look.ensures.looks c.take-old.ensures.takes
+    (line-at c.args.b.now c.line_of-l.result c.args.addr c.requires.parts c.line_of-l.ensures) c.look_found-look.ensures.looks c.take-taken.ensures.takes
 
 pub returns-clause-changed : goal.returns-clause-changed
 returns-clause-changed g c rd t fills holds =
@@ -52,17 +52,17 @@ returns-clause-changed g c rd t fills holds =
       holds = holds;
     } in
     let taken = taken-up_to c.args.b.now.write_set c.insert_up_to.new.self c.line_of-l.result c.args.b.now.limits.write_limit c.insert_up_to.result c.insert_up_to.ensures.sets c.insert_up_to.ensures.answer c.if-not-insert_up_to.false in
-    let P : ℕ → Type 0 = λ n. Puts c.take-old.new.cache c.put.new.cache c.args.addr 4 n in (
+    let P : ℕ → Type 0 = λ n. Puts c.take-taken.new.cache c.put.new.cache c.args.addr 4 n in (
       atomic-ends c.args.b.now t fills c.args.addr c.args.op rd c.args.value c.line_of-l.result c.look_found-look.result c.load_end.result None a c.look_found-look.ensures.looks c.load_end.ensures (sym (ap end_of_store taken.0)) ∙ ap (λ o. or_else o None) c.in_default.is,
-      atomic-exchanges (g.B.Backing.shown c.args.mem.now) c.args.b.now t fills c.args.addr c.args.op rd c.args.value c.line_of-l.result c.look_found-look.result c.take-old.new.cache _ _ _ c.take-old.result
-          c.args.log.now _ a c.look_found-look.ensures.looks c.take-old.ensures.takes c.take-old.ensures.notes (subst P c.amo_result.ensures c.put.ensures) taken.1,
+      atomic-exchanges (g.B.Backing.shown c.args.mem.now) c.args.b.now t fills c.args.addr c.args.op rd c.args.value c.line_of-l.result c.look_found-look.result c.take-taken.new.cache _ _ _ c.take-taken.result.value
+          c.args.log.now _ a c.look_found-look.ensures.looks c.take-taken.ensures.takes c.take-taken.ensures.notes (subst P c.amo_result-word.ensures c.put.ensures) taken.1,
     )
 
 pub returns-clause-parts : goal.returns-clause-parts
 returns-clause-parts g c =
     let taken = taken-up_to c.args.b.now.write_set c.insert_up_to.new.self c.line_of-l.result c.args.b.now.limits.write_limit c.insert_up_to.result c.insert_up_to.ensures.sets c.insert_up_to.ensures.answer c.if-not-insert_up_to.false in
-    atomic-parts (g.B.Backing.shown c.args.mem.now) c.args.b.now c.line_of-l.result c.args.addr c.amo_result.result c.look_found-look.result c.take-old.new.cache c.put.new.cache _ _ c.take-old.result
-    c.requires.parts c.take-old.ensures.takes c.put.ensures taken.1
+    atomic-parts (g.B.Backing.shown c.args.mem.now) c.args.b.now c.line_of-l.result c.args.addr c.amo_result-word.result c.look_found-look.result c.take-taken.new.cache c.put.new.cache _ _ c.take-taken.result.value
+    c.requires.parts c.take-taken.ensures.takes c.put.ensures taken.1
 
 pub look_found-look-requires-clause-found : goal.look_found-look-requires-clause-found
 look_found-look-requires-clause-found g c =

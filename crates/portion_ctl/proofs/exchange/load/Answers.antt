@@ -61,14 +61,14 @@ returns-else-not-insert_up_to-clause-loads g c signed rd t fills holds =
     } in
     let taken = taken-up_to c.args.b.now.read_set c.insert_up_to.new.self c.line_of-l.result c.args.b.now.limits.read_limit c.insert_up_to.result c.insert_up_to.ensures.sets c.insert_up_to.ensures.answer c.if-not-insert_up_to.false in (
       load-ends c.args.b.now t fills c.args.addr c.args.size c.line_of-l.result Missing None signed rd a c.in-Missing.ensures.looks (sym (ap (end_of_load Missing) taken.0)),
-      load-exchanges (g.B.Backing.shown c.args.mem.now) c.args.b.now t fills c.args.addr c.args.size c.line_of-l.result Missing c.fetch.new.cache c.insert_up_to.new.self c.fetch.result c.args.log.now _ signed rd a c.in-Missing.ensures.looks
+      load-exchanges (g.B.Backing.shown c.args.mem.now) c.args.b.now t fills c.args.addr c.args.size c.line_of-l.result Missing c.fetch.new.cache c.insert_up_to.new.self c.fetch.result.value c.args.log.now _ signed rd a c.in-Missing.ensures.looks
           (c.fetch.ensures.cache, taken.1, c.fetch.ensures.value) c.fetch.ensures.notes,
     )
 
 pub returns-else-not-insert_up_to-clause-parts : goal.returns-else-not-insert_up_to-clause-parts
 returns-else-not-insert_up_to-clause-parts g c =
     let taken = taken-up_to c.args.b.now.read_set c.insert_up_to.new.self c.line_of-l.result c.args.b.now.limits.read_limit c.insert_up_to.result c.insert_up_to.ensures.sets c.insert_up_to.ensures.answer c.if-not-insert_up_to.false in
-    load-parts (g.B.Backing.shown c.args.mem.now) c.args.b.now c.line_of-l.result c.args.addr c.args.size c.fetch.new.cache c.insert_up_to.new.self c.fetch.result c.requires.parts
+    load-parts (g.B.Backing.shown c.args.mem.now) c.args.b.now c.line_of-l.result c.args.addr c.args.size c.fetch.new.cache c.insert_up_to.new.self c.fetch.result.value c.requires.parts
     (c.fetch.ensures.cache, taken.1, c.fetch.ensures.value)
 
 pub look_found-requires-clause-found : goal.look_found-requires-clause-found

@@ -21,6 +21,6 @@ returns-clause-stores c =
     c.offset_of-offset.ensures.place ∙ ap (λ (t : Tried). line_offset c.args.addr t.line_bytes) c.self.view_is in
     let yes : IsTrue c.has_room.result = search rules in
     let P : Line → Type 0 = λ k. HasRoom c.args.self.now k in
-    let Q : Line → Type 0 = λ k. Writes c.args.self.now c.write_found.new.self k (line_offset c.args.addr c.args.self.now.line_bytes) c.args.size c.args.value in
-    let R : ℕ → Type 0 = λ o. Writes c.args.self.now c.write_found.new.self c.line_of-l.result o c.args.size c.args.value in
-    (subst P line (c.has_room.ensures.0 yes), search rules, subst Q line (subst R offset c.write_found.ensures.writes))
+    let Q : Line → Type 0 = λ k. Writes c.args.self.now c.write_at.new.self k (line_offset c.args.addr c.args.self.now.line_bytes) c.args.size c.args.value in
+    let R : ℕ → Type 0 = λ o. Writes c.args.self.now c.write_at.new.self c.line_of-l.result o c.args.size c.args.value in
+    (subst P line (c.has_room.ensures.0 yes), search rules, subst Q line (subst R offset c.write_at.ensures.writes))
