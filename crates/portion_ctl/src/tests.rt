@@ -215,6 +215,22 @@ fn a_try_ends_after_its_steps(rt: HostRuntime) -> Result<(), AllocError> {
 }
 
 #[test]
+fn a_full_set_ends_a_try(rt: HostRuntime) -> Result<(), AllocError> {
+    let mut config = Config::plain();
+    config.core_sets = 1;
+    config.core_ways = 1;
+    assert_eq!(rt;
+        end_of(rt.alloc(), &config, [LOAD, LOAD_NEXT_LINE, 0, 0], false)?,
+        clear_end(1, 4, 0, 1)
+    );
+    assert_eq!(rt;
+        end_of(rt.alloc(), &config, [STORE, STORE_NEXT_LINE, 0, 0], false)?,
+        clear_end(1, 4, 0, 0)
+    );
+    Ok(())
+}
+
+#[test]
 fn a_full_read_signature_ends_a_try(rt: HostRuntime) -> Result<(), AllocError> {
     let mut config = Config::plain();
     config.read_limit = 1;
