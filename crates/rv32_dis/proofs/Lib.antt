@@ -1,3 +1,4 @@
 pub mod NamingLemmas
 pub mod EveryLemmas
 pub mod AtomicLemmas
+pub mod ApartLemmas

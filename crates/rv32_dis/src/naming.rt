@@ -9,7 +9,7 @@ use crate::mnemonic::Mnemonic;
 use rv32_decode::{AmoOp, BranchOp, ImmOp, LoadOp, RegOp, StoreOp};
 
 /// All that an instruction may be named. Names of one first letter stand together, and so do atomics of one fourth letter,
-/// so that a name is sought among few.
+/// so that a name is sought among few, and one that begins otherwise among none.
 pub const MNEMONICS: [Mnemonic; 84] = [
     Mnemonic::Imm(ImmOp::Addi),
     Mnemonic::Reg(RegOp::Add),
@@ -241,12 +241,12 @@ pub const MNEMONICS: [Mnemonic; 84] = [
     Mnemonic::Imm(ImmOp::Xori),
 ];
 
-// The bytes are those of a stem and an ending.
-#[tactic(auto, using(crate::proofs::NamingLemmas::bytes_eq_joined, crate::proofs::NamingLemmas::bytes_eq_longer))]
+// The bytes are those of a stem and an ending. The length is compared first: most names have another.
+#[tactic(auto, using(crate::proofs::NamingLemmas::bytes_eq_joined, crate::proofs::NamingLemmas::bytes_eq_other_length))]
 fn is_joined(name: &[u8], stem: &[u8], ending: &[u8]) -> bool
     ensures { result ≡ bytes_eq name.now (stem.now ++ ending.now) }
 {
-    if name.len() < stem.len() {
+    if name.len() != stem.len() + ending.len() {
         return false;
     }
     let (front, back) = name.split_at(stem.len());
@@ -276,17 +276,29 @@ fn atomics(name: &[u8]) -> &'static [Mnemonic]
         b'o' => &MNEMONICS[29..33],
         b's' => &MNEMONICS[33..37],
         b'x' => &MNEMONICS[37..41],
-        _ => &MNEMONICS,
+        _ => &[],
     }
 }
 
-// All that another name can be, by its first letter.
+// All that a name that begins with `a` can be.
+fn candidates_of_a(name: &[u8]) -> &'static [Mnemonic]
+    requires begins { take 1 name.now ≡ codes "a" }
+    ensures { named_in result.now name.now ≡ named_in MNEMONICS name.now }
+{
+    if name.len() >= 4 && &name[..3] == b"amo".as_slice() {
+        atomics(name)
+    } else {
+        &MNEMONICS[..5]
+    }
+}
+
+// All that a name can be, by its first letter.
 fn candidates(name: &[u8]) -> &'static [Mnemonic]
     requires { 0 < length name.now }
     ensures { named_in result.now name.now ≡ named_in MNEMONICS name.now }
 {
     match name[0] {
-        b'a' => &MNEMONICS[..41],
+        b'a' => candidates_of_a(name),
         b'b' => &MNEMONICS[41..47],
         b'd' => &MNEMONICS[47..49],
         b'e' => &MNEMONICS[49..51],
@@ -298,16 +310,13 @@ fn candidates(name: &[u8]) -> &'static [Mnemonic]
         b'r' => &MNEMONICS[66..68],
         b's' => &MNEMONICS[68..82],
         b'x' => &MNEMONICS[82..84],
-        _ => &MNEMONICS,
+        _ => &[],
     }
 }
 
 fn look_up(name: &[u8]) -> Option<Mnemonic>
     ensures { result ≡ named_in MNEMONICS name.now }
 {
-    if name.len() >= 4 && &name[..3] == b"amo".as_slice() {
-        return find(atomics(name), name);
-    }
     if name.is_empty() {
         return None;
     }
