@@ -56,10 +56,6 @@ pub source_cut : (text line after : List ℕ) → lines_of text ≡ line ∷ lin
 unfolding source_in
 source_cut text line after h = ap (map line_in) h
 
-pub source_end : (text : List ℕ) → lines_of text ≡ [] → source_in text ≡ []
-unfolding source_in
-source_end text h = ap (map line_in) h
-
 first_step : (o : Option Place) (b : Bool) (p : Place) (later : Option Place) → first_some (first_some o (if b then Some p else None)) later ≡ first_some o (if b then Some p else later)
 first_step None true p later = refl
 first_step None false p later = refl

@@ -79,9 +79,6 @@ hex_is_word w =
     rw ((hex (w / 2 ^ 28)).digit) (rw ((hex (w / 2 ^ 24)).digit) (rw ((hex (w / 2 ^ 20)).digit) (rw ((hex (w / 2 ^ 16)).digit)
     (rw ((hex (w / 2 ^ 12)).digit) (rw ((hex (w / 2 ^ 8)).digit) (rw ((hex (w / 2 ^ 4)).digit) (rw ((hex w).digit) refl)))))))
 
-next : (n : ℕ) → n / 16 * 16 + n % 16 ≡ n
-next n = omega arith
-
 pub hex_back : (w : ℕ) → w < 2 ^ 32 → hex_after 0 (hex_word w) ≡ w
 unfolding hex_word
 hex_back w h =

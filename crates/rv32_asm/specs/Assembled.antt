@@ -6,6 +6,7 @@ use Rattle.conda_base.specs.Digits.{number_after}
 use Rattle.rv32_decode.specs.declared.instr.Instr.{Instr}
 use Rattle.rv32_decode.specs.declared.instr.Instr.TheVariants.{Lui, Auipc, Jal, Jalr, Branch, Load, Store, Imm, Reg, Amo, Fence, Ecall, Ebreak}
 use Rattle.rv32_decode.specs.Encoding.{encoded, is_shift}
+use Rattle.rv32_asm.specs.declared.limits.TheConstants.{DEFAULT_ADDRESS, MOST_WORDS}
 use Rattle.rv32_asm.specs.declared.place.Place.{Place}
 use Rattle.rv32_asm.specs.declared.place.BadLine.{BadLine}
 use Rattle.rv32_asm.specs.Pieces.{lines_of}
@@ -63,15 +64,15 @@ place_of source name = place_from first_place source name
 abbrev pub is_address : List ℕ → Bool
 is_address digits = number_after 0 digits % 4 == 0 && nat_le (number_after 0 digits) 4294967292
 
--- the address of the first word: that of the first statement, where this is a good `.at`, and else 65536
+-- the address of the first word: that of the first statement, where this is a good `.at`, and else the default
 abbrev pub address_by : Option Said → ℕ → ℕ
 address_by None later = later
-address_by (Some (At digits)) later = if is_address digits then number_after 0 digits else 65536
-address_by (Some (Word digits)) later = 65536
-address_by (Some (Does i text)) later = 65536
+address_by (Some (At digits)) later = if is_address digits then number_after 0 digits else DEFAULT_ADDRESS
+address_by (Some (Word digits)) later = DEFAULT_ADDRESS
+address_by (Some (Does i text)) later = DEFAULT_ADDRESS
 
 abbrev pub address_of : Source → ℕ
-address_of [] = 65536
+address_of [] = DEFAULT_ADDRESS
 address_of (line ∷ source) = address_by (said_of line) (address_of source)
 
 -- the address of the word that so many words stand before
@@ -174,10 +175,10 @@ has_bad_address p (Some (At digits)) = p.begun || not (is_address digits)
 has_bad_address p (Some (Word digits)) = false
 has_bad_address p (Some (Does i text)) = false
 
--- 5, its word would be the 4194305th, or would end past 4294967296
+-- 5, its word would be one too many, or would end past 4294967296
 abbrev pub is_past_the_end : Source → Place → Option Said → Bool
 is_past_the_end source p said =
-    words_by said == 1 && (nat_le 4194304 p.words || nat_lt 4294967296 (word_address source p.words + 4))
+    words_by said == 1 && (nat_le MOST_WORDS p.words || nat_lt 4294967296 (word_address source p.words + 4))
 
 -- the number of the first of these that stands
 abbrev pub first_of : ℕ → List Bool → Option ℕ

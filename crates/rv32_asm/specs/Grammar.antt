@@ -6,6 +6,7 @@ use Rattle.rv32_decode.specs.declared.instr.Instr.{Instr}
 use Rattle.rv32_decode.specs.declared.instr.Instr.TheVariants.{Lui, Auipc, Jal, Jalr, Branch, Load, Store, Imm, Reg, Amo, Fence, Ecall, Ebreak}
 use Rattle.rv32_decode.specs.Ranges.{FieldsFit}
 use Rattle.rv32_dis.specs.Texts.{instr_pieces}
+use Rattle.rv32_asm.specs.declared.limits.TheConstants.{LONGEST_NAME}
 use Rattle.rv32_asm.specs.Pieces.{pieces, without_comment}
 
 abbrev pub is_letter : ℕ → Bool
@@ -14,10 +15,10 @@ is_letter byte = (nat_le 65 byte && nat_le byte 90) || (nat_le 97 byte && nat_le
 abbrev pub is_name_byte : ℕ → Bool
 is_name_byte byte = is_letter byte || is_digit byte || byte == 95
 
--- 1 to 32 letters, digits and `_`, not beginning with a digit
+-- one or more letters, digits and `_`, not too many, and not beginning with a digit
 abbrev pub is_name : List ℕ → Bool
 is_name name =
-    nat_le 1 (length name) && nat_le (length name) 32 && list_all is_name_byte name && not (is_digit (slice_index name 0))
+    nat_le 1 (length name) && nat_le (length name) LONGEST_NAME && list_all is_name_byte name && not (is_digit (slice_index name 0))
 
 -- one or more digits, of which the first isn't 0 where there are more
 abbrev pub is_numeral : List ℕ → Bool

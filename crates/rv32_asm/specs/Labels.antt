@@ -1,5 +1,6 @@
 -- The labels that a map has.
 use Rattle.std.specs.Prelude.{ℕ, ◌≡◌, List, Option, Some, None, if◌then◌else◌}
+use Rattle.std.specs.Str.{bytes_eq}
 use Rattle.std.specs.Ordering.{nat_cmp}
 use Rattle.std.specs.Cmp.Lexicographic.{slice_cmp}
 use Rattle.std.specs.BTreeMap.{BTreeMap, get_by}
@@ -19,6 +20,10 @@ AreLabelsOf labels source = (name : List ℕ) → place_in labels name ≡ place
 abbrev pub first_some : Option Place → Option Place → Option Place
 first_some None later = later
 first_some (Some place) later = Some place
+
+-- the old labels, with this one at this place
+abbrev pub IsPlaced : List ℕ → Place → BTreeMap (Bor (List ℕ)) Place → BTreeMap (Bor (List ℕ)) Place → Type 0
+IsPlaced label p old new = (name : List ℕ) → place_in new name ≡ (if bytes_eq label name then Some p else place_in old name)
 
 -- the old labels, and this one at this place where it isn't among them
 abbrev pub HasAdded : Option (List ℕ) → Place → BTreeMap (Bor (List ℕ)) Place → BTreeMap (Bor (List ℕ)) Place → Type 0

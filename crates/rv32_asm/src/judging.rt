@@ -29,14 +29,12 @@ ghost use Rattle.rv32_asm.specs.Integers.{IsAmount, IsAmountOf};
 
 use crate::integer::{Amount, Integer, is_in_range, offset, read_number, with_number};
 use crate::labels::{Labels, find};
+use crate::limits::MOST_WORDS;
 use crate::place::Place;
 use crate::reading::is_name;
 use crate::statement::{SourceLine, Statement};
 use crate::survey::{label_of, read_address, statement_of, words_by};
 use rv32_decode::{Instr, encode};
-
-/// How many words a program has at most.
-const MOST_WORDS: u64 = 4_194_304;
 
 // What is written for an immediate, as a number.
 fn read_amount(labels: &Labels<'_>, place: Place, text: &[u8]) -> Amount

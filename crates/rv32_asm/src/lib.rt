@@ -9,6 +9,7 @@ mod integer;
 mod judging;
 mod labels;
 mod laws;
+mod limits;
 mod lines;
 mod place;
 mod reading;

@@ -42,11 +42,13 @@ ghost use Rattle.rv32_asm.specs.Reading.{
   operands_in,
   Gives,
 };
+ghost use Rattle.rv32_dis.specs.declared.mnemonic.Mnemonic.TheVariants as Is;
 
 use crate::cutting::{take_piece, without_comment};
+use crate::limits::LONGEST_NAME;
 use crate::statement::{SourceLine, Statement};
 use conda_base::is_decimal;
-use rv32_decode::Instr;
+use rv32_decode::{AmoOp, BranchOp, ImmOp, Instr, LoadOp, RegOp, StoreOp};
 use rv32_dis::{Mnemonic, named};
 
 fn is_name_byte(byte: u8) -> bool
@@ -79,7 +81,7 @@ fn are_hex_digits(text: &[u8]) -> bool
 pub(crate) fn is_name(text: &[u8]) -> bool
     ensures { result ≡ is_name text.now }
 {
-    !text.is_empty() && text.len() <= 32 && are_name_bytes(text) && !is_decimal(text[0])
+    !text.is_empty() && text.len() <= LONGEST_NAME && are_name_bytes(text) && !is_decimal(text[0])
 }
 
 fn is_numeral(text: &[u8]) -> bool
@@ -253,6 +255,96 @@ fn read_registers(text: &[u8]) -> Option<(u8, u8, u8)>
 }
 
 #[tactic(auto, unfolding(crate::specs::Reading::operands_in))]
+fn read_branch(op: BranchOp, text: &[u8]) -> Option<(Instr, &[u8])>
+    ensures { Gives (λ x. (x.0, x.1.now)) result (operands_in (Is.Branch op) (pieces text.now)) }
+{
+    let (rs1, rs2, number) = read_triple(text)?;
+    Some((
+        Instr::Branch {
+            op,
+            rs1,
+            rs2,
+            imm: 0,
+        },
+        number,
+    ))
+}
+
+#[tactic(auto, unfolding(crate::specs::Reading::operands_in))]
+fn read_load(op: LoadOp, text: &[u8]) -> Option<(Instr, &[u8])>
+    ensures { Gives (λ x. (x.0, x.1.now)) result (operands_in (Is.Load op) (pieces text.now)) }
+{
+    let (rd, number, rs1) = read_addressed(text)?;
+    Some((
+        Instr::Load {
+            op,
+            rd,
+            rs1,
+            imm: 0,
+        },
+        number,
+    ))
+}
+
+#[tactic(auto, unfolding(crate::specs::Reading::operands_in))]
+fn read_store(op: StoreOp, text: &[u8]) -> Option<(Instr, &[u8])>
+    ensures { Gives (λ x. (x.0, x.1.now)) result (operands_in (Is.Store op) (pieces text.now)) }
+{
+    let (rs2, number, rs1) = read_addressed(text)?;
+    Some((
+        Instr::Store {
+            op,
+            rs1,
+            rs2,
+            imm: 0,
+        },
+        number,
+    ))
+}
+
+#[tactic(auto, unfolding(crate::specs::Reading::operands_in))]
+fn read_imm(op: ImmOp, text: &[u8]) -> Option<(Instr, &[u8])>
+    ensures { Gives (λ x. (x.0, x.1.now)) result (operands_in (Is.Imm op) (pieces text.now)) }
+{
+    let (rd, rs1, number) = read_triple(text)?;
+    Some((
+        Instr::Imm {
+            op,
+            rd,
+            rs1,
+            imm: 0,
+        },
+        number,
+    ))
+}
+
+#[tactic(auto, unfolding(crate::specs::Reading::operands_in))]
+fn read_reg(op: RegOp, text: &[u8]) -> Option<(Instr, &[u8])>
+    ensures { Gives (λ x. (x.0, x.1.now)) result (operands_in (Is.Reg op) (pieces text.now)) }
+{
+    let (rd, rs1, rs2) = read_registers(text)?;
+    Some((Instr::Reg { op, rd, rs1, rs2 }, b""))
+}
+
+#[tactic(auto, unfolding(crate::specs::Reading::operands_in))]
+fn read_amo(op: AmoOp, aq: bool, rl: bool, text: &[u8]) -> Option<(Instr, &[u8])>
+    ensures { Gives (λ x. (x.0, x.1.now)) result (operands_in (Is.Amo op aq rl) (pieces text.now)) }
+{
+    let (rd, rs2, rs1) = read_atomic(text)?;
+    Some((
+        Instr::Amo {
+            op,
+            aq,
+            rl,
+            rd,
+            rs1,
+            rs2,
+        },
+        b"",
+    ))
+}
+
+#[tactic(auto, unfolding(crate::specs::Reading::operands_in))]
 fn read_operands(m: Mnemonic, text: &[u8]) -> Option<(Instr, &[u8])>
     ensures { Gives (λ x. (x.0, x.1.now)) result (operands_in m (pieces text.now)) }
 {
@@ -273,72 +365,12 @@ fn read_operands(m: Mnemonic, text: &[u8]) -> Option<(Instr, &[u8])>
             let (rd, number, rs1) = read_addressed(text)?;
             Some((Instr::Jalr { rd, rs1, imm: 0 }, number))
         }
-        Mnemonic::Branch(op) => {
-            let (rs1, rs2, number) = read_triple(text)?;
-            Some((
-                Instr::Branch {
-                    op,
-                    rs1,
-                    rs2,
-                    imm: 0,
-                },
-                number,
-            ))
-        }
-        Mnemonic::Load(op) => {
-            let (rd, number, rs1) = read_addressed(text)?;
-            Some((
-                Instr::Load {
-                    op,
-                    rd,
-                    rs1,
-                    imm: 0,
-                },
-                number,
-            ))
-        }
-        Mnemonic::Store(op) => {
-            let (rs2, number, rs1) = read_addressed(text)?;
-            Some((
-                Instr::Store {
-                    op,
-                    rs1,
-                    rs2,
-                    imm: 0,
-                },
-                number,
-            ))
-        }
-        Mnemonic::Imm(op) => {
-            let (rd, rs1, number) = read_triple(text)?;
-            Some((
-                Instr::Imm {
-                    op,
-                    rd,
-                    rs1,
-                    imm: 0,
-                },
-                number,
-            ))
-        }
-        Mnemonic::Reg(op) => {
-            let (rd, rs1, rs2) = read_registers(text)?;
-            Some((Instr::Reg { op, rd, rs1, rs2 }, b""))
-        }
-        Mnemonic::Amo { op, aq, rl } => {
-            let (rd, rs2, rs1) = read_atomic(text)?;
-            Some((
-                Instr::Amo {
-                    op,
-                    aq,
-                    rl,
-                    rd,
-                    rs1,
-                    rs2,
-                },
-                b"",
-            ))
-        }
+        Mnemonic::Branch(op) => read_branch(op, text),
+        Mnemonic::Load(op) => read_load(op, text),
+        Mnemonic::Store(op) => read_store(op, text),
+        Mnemonic::Imm(op) => read_imm(op, text),
+        Mnemonic::Reg(op) => read_reg(op, text),
+        Mnemonic::Amo { op, aq, rl } => read_amo(op, aq, rl, text),
         Mnemonic::Fence if is_end(text) => Some((Instr::Fence, b"")),
         Mnemonic::Ecall if is_end(text) => Some((Instr::Ecall, b"")),
         Mnemonic::Ebreak if is_end(text) => Some((Instr::Ebreak, b"")),

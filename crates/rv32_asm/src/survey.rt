@@ -9,15 +9,13 @@ ghost use Rattle.rv32_asm.specs.Labels.{AreLabelsOf, HasAdded};
 ghost use Rattle.rv32_asm.specs.Sources.{source_in, address_or, word_in_digits};
 
 use crate::labels::{Labels, add};
+use crate::limits::DEFAULT_ADDRESS;
 use crate::lines::take_line;
 use crate::place::Place;
 use crate::reading::read_line;
 use crate::statement::{SourceLine, Statement};
 use std::alloc::{AllocError, Global};
 use std::collections::BTreeMap;
-
-/// The address of a program that names none.
-const DEFAULT_ADDRESS: u32 = 65_536;
 
 /// Where labels stand in a source, and its first word's address.
 #[derive(Drop)]
