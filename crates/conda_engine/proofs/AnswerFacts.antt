@@ -43,7 +43,7 @@ rose_if : (o w : Option (List ℕ)) (a b c : HostState) (r : Role) → ((n : Lis
 rose_if None w a b c r same p h = absurd h
 rose_if (Some n) w a b c r same p h = subst (λ x. IsSomeAnd x (Rose a c r)) (sym (same n refl)) (rose_after p h)
 
-told_after : {a b : HostState} → IsLater a b → IsTrue a.tells → IsTrue b.tells
+pub told_after : {a b : HostState} → IsLater a b → IsTrue a.tells → IsTrue b.tells
 told_after p told = subst IsTrue (sym p.tells) told
 
 cause_after : (last whole : Command) (first second : Outcome) (a b c : HostState) (answer : Status) → IsEndOf last whole → IsLater a b → (IsTrue a.tells → first ≡ second)

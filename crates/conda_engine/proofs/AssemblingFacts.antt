@@ -1,16 +1,30 @@
--- What a text says, read line by line.
-use Rattle.std.proofs.Common.{◌≡◌, ℕ, List, [], ◌∷◌, map, refl, ◌∙◌, ap, Ok, Err}
+-- What a text says, read line by line, and what `asm` makes of it.
+use Rattle.std.proofs.Common.{◌≡◌, ℕ, List, [], ◌∷◌, map, refl, sym, ◌∙◌, ap, subst, inl, inr, Ok, Err}
 use Rattle.std.specs.Prelude.{Option, Some, None}
+use Rattle.conda_host.specs.declared.outside.Role.TheVariants as role
+use Rattle.conda_host.specs.State.{HostState, IsReading}
+use Rattle.command_run.specs.Driving.{bytes_of}
+use Rattle.command_words.specs.Words.{ProgramFiles}
 use Rattle.elf_loader.specs.Plain.{plain}
+use Rattle.elf_loader.proofs.PlainFacts.{refusal-plain}
 use Rattle.rv32_asm.specs.declared.place.BadLine.{BadLine}
 use Rattle.rv32_asm.specs.Assembled.{Assembled, IsBad, IsSource, Source, address_of, first_bad, words_of}
 use Rattle.rv32_asm.specs.Pieces.{lines_of}
+use Rattle.rv32_asm.specs.Programs.{IsProgram}
 use Rattle.rv32_asm.specs.Reading.{line_in}
 use Rattle.rv32_asm.specs.Sources.{source_in}
 use Rattle.rv32_asm.proofs.AssembleLemmas.{source_says}
 use Rattle.rv32_asm.proofs.GrammarLemmas.{says_once}
+use Rattle.rv32_asm.proofs.ProgramLemmas.{assembled_is}
+use Rattle.conda_engine.specs.declared.status.Status.{Status}
 use Rattle.conda_engine.specs.declared.status.Status.TheVariants as status
-use Rattle.conda_engine.specs.Assembling.{SaysImage, image_or_bad, image_read}
+use Rattle.conda_engine.specs.Answers.{Answers}
+use Rattle.conda_engine.specs.Assembling.{IsAsmEnd, IsAssembledImage, SaysImage, image_or_bad, image_read, source_limit}
+use Rattle.conda_engine.specs.LastFile.{IsFileEnd, file_command, text_outcome}
+use Rattle.conda_engine.specs.Making.{IsMadeText, IsMakeError}
+use Rattle.conda_engine.specs.TextLaws.{HasLoadableImageAtDone, IsLoadable}
+use Rattle.conda_engine.proofs.AnswerFacts.{told_after}
+use Rattle.conda_engine.proofs.LastFileFacts.{holds_text}
 
 -- lines say one source
 one_source : (lines : List (List ℕ)) (source : Source) → IsSource lines source → map line_in lines ≡ source
@@ -44,3 +58,35 @@ says_read text = go (first_bad (source_in text)) refl
       image_is = refl;
     }
     go (Some bad) e = record { source = source_in text; says = source_says text; first = e }
+
+-- ---- what is assembled can be loaded
+
+loadable : (text : List ℕ) (at : ℕ) (words : List ℕ) → Assembled text at words → IsLoadable at words
+loadable text at words said base size has =
+    let program : IsProgram at words = assembled_is text at words said in
+    refusal-plain at base size words (record { some = program.some; aligned = program.aligned; from = has.from; to = has.to }) has.ends has.fits
+
+pub loadable_made : (files : ProgramFiles) (a b c : HostState) (image : List ℕ) (answer : Status) → IsMadeText image_read a files.source source_limit image → IsReading a b role.Source
+    → Answers (file_command role.Program files.program) (text_outcome image) b c answer → HasLoadableImageAtDone files a c answer
+loadable_made files a b c image answer made read answers told done =
+    let text : List ℕ = bytes_of a files.source in
+    let said : image_read text ≡ Ok image = ap image_read (made.held.bytes_are told) ∙ made.text_is in
+    let is : IsAssembledImage text image = subst (SaysImage text) said (says_read text) in
+    record {
+      at = is.at;
+      words = is.words;
+      said = is.assembled;
+      image = holds_text role.Program files.program image b c answer answers (told_after read.later told) done ∙ ap Some is.image_is;
+      loadable = loadable text is.at is.words is.assembled;
+    }
+
+-- a refusal isn't Done
+pub loadable_unmade : (files : ProgramFiles) (a b : HostState) (answer : Status) → IsMakeError image_read a b role.Source files.source source_limit answer → HasLoadableImageAtDone files a b answer
+loadable_unmade files a b answer h told done = absurd (late (subst (IsMakeError image_read a b role.Source files.source source_limit) done h))
+  where
+    late : IsMakeError image_read a b role.Source files.source source_limit status.Done → ⊥
+    late e = e
+
+pub asm_ends : (answer : Status) → IsFileEnd role.Program answer → IsAsmEnd answer
+asm_ends answer (inl e) = subst IsAsmEnd (sym e) tt
+asm_ends answer (inr e) = subst IsAsmEnd (sym e) tt

@@ -1,5 +1,5 @@
 -- What a machine's run answers and leaves, from where its schedule is opened.
-use Rattle.std.proofs.Common.{◌≡◌, ℕ, true, false, IsTrue, List, [], length, Result, Ok, Err, OnErr, append-nil, refl, sym, ◌∙◌, ap, subst}
+use Rattle.std.proofs.Common.{◌≡◌, ℕ, true, false, IsTrue, List, [], length, Result, Ok, Err, OnErr, append-nil, refl, sym, ◌∙◌, ap, subst, inl, inr}
 use Rattle.std.specs.Prelude.{Option, Some, None, IfSome, IfErr, is_some}
 use Rattle.conda_base.specs.declared.actor.Actor.{Actor}
 use Rattle.conda_host.specs.declared.outside.Role.{Role}
@@ -209,8 +209,8 @@ drive_answers m shown report shows files d bytes a b run (Err (fault.Write other
 pub drive_late : (names : Names) (a b : HostState) (ran : Result Ending Fault) → IfErr ran (FaultRose names a b) → IsLate (status_of_run ran)
 drive_late names a b (Ok Ending_is.Whole) cause = tt
 drive_late names a b (Ok (Ending_is.BadLine line why)) cause = tt
-drive_late names a b (Ok Ending_is.TooManyEvents) cause = tt
-drive_late names a b (Ok Ending_is.TooManyBytes) cause = tt
+drive_late names a b (Ok Ending_is.TooManyEvents) cause = inl refl
+drive_late names a b (Ok Ending_is.TooManyBytes) cause = inr refl
 drive_late names a b (Err (fault.Read role.Schedule)) cause = tt
 drive_late names a b (Err (fault.Read other)) cause = absurd cause
 drive_late names a b (Err (fault.Write role.Order)) cause = tt

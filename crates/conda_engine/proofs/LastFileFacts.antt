@@ -31,6 +31,13 @@ the_one role r name n e = elim (role_tells role r) [
 pub role_cause : (role : Role) (name : List ℕ) (a b : HostState) → Rose a b role name → IsSomeAnd (file_of_role role name role) (Rose a b role)
 role_cause role name a b h = subst (λ o. IsSomeAnd o (Rose a b role)) (sym (file_of_role_same role name)) h
 
+-- where it is done, the file holds its text
+pub holds_text : (role : Role) (name text : List ℕ) (a b : HostState) (answer : Status) → Answers (file_command role name) (text_outcome text) a b answer → IsTrue a.tells → answer ≡ status.Done
+    → b.file name ≡ Some text
+holds_text role name text a b answer h told done =
+    let at_done : Answers (file_command role name) (text_outcome text) a b status.Done = subst (Answers (file_command role name) (text_outcome text) a b) done h in
+    (at_done.texts told refl).each role name (file_of_role_same role name)
+
 pub not_made : (role : Role) (name text : List ℕ) (a b : HostState) → is_created b role ≡ false → Rose a b role name → IsCreating a b role name
     → Answers (file_command role name) (text_outcome text) a b (status.WriteFault role)
 not_made role name text a b none rose p = record {

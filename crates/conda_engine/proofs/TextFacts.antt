@@ -1,15 +1,22 @@
 -- The text of an image, which is assembled again.
-use Rattle.std.proofs.Common.{◌≡◌, ◌+◌, ◌-◌, ◌*◌, ◌%◌, ◌^◌, ◌<◌, ◌≤◌, ◌==◌, ◌&&◌, ℕ, Bool, true, false, List, [], ◌∷◌, length, drop, refl, arith, leb, eqb}
+use Rattle.std.proofs.Common.{◌≡◌, ◌+◌, ◌-◌, ◌*◌, ◌%◌, ◌^◌, ◌<◌, ◌≤◌, ◌==◌, ◌&&◌, ℕ, Bool, true, false, cond, List, [], ◌∷◌, length, take, drop, Some, None, length-append, refl, sym, ◌∙◌, ap, subst, arith, leb, eqb}
+use Rattle.std.specs.Prelude.{IsSome}
 use Rattle.std.specs.List.{All}
 use Rattle.std.proofs.lemmas.Bool.{false≢true, and_parts, leb-true, eqb-true}
-use Rattle.std.proofs.lemmas.List.{length-take-le, length-drop}
+use Rattle.std.proofs.lemmas.List.{length-take-le, length-drop, take-append-drop}
 use Rattle.std.proofs.lemmas.List.Elements.{All-head, All-tail, All-take, All-drop}
-use Rattle.elf_loader.specs.Image.{ImageView}
-use Rattle.rv32_hart.specs.Code.{CodeView, IsCode, IsRangeIn, has_word, is_fetched}
+use Rattle.conda_base.specs.Bytes.{value_at}
+use Rattle.chip_config.specs.Keys.{keys}
+use Rattle.chip_config.specs.Settings.{Settings, plain_settings}
+use Rattle.elf_loader.specs.Header.{header_of}
+use Rattle.elf_loader.specs.Image.{ImageView, image_of}
+use Rattle.elf_loader.specs.Loaded.{code_of}
+use Rattle.rv32_hart.specs.Code.{CodeView, IsCode, IsRangeIn, has_word, is_fetched, word_at}
 use Rattle.rv32_asm.specs.Assembled.{Assembled}
 use Rattle.rv32_asm.specs.Programs.{IsProgram, most_words}
 use Rattle.rv32_asm.proofs.ProgramTextLemmas.{AreSmall, program_back}
-use Rattle.conda_engine.specs.Disassembling.{bytes_behind, dis_text, range_at, words_in, words_of_image}
+use Rattle.conda_engine.specs.Disassembling.{bytes_behind, dis_text, program_image, range_at, words_in, words_of_image}
+use Rattle.conda_engine.specs.TextLaws.{ComesBack, IsTextThatComesBack}
 
 -- the range that has the word at an address
 record HasRange (base bytes pc : ℕ) (range : ℕ × ℕ) : Type 0 where
@@ -93,3 +100,40 @@ text_back image is entry few =
     (All-take P (range.0 + range.1 - image.entry) (drop (image.entry - image.code.base) image.code.bytes) (All-drop P (image.entry - image.code.base) image.code.bytes is.bytes)) in
     program_back image.entry (words_of_image image) small
     (image_program image.code image.entry is (eqb-true (image.entry % 4) 0 both.0) both.1 few)
+
+-- ---- an image that was loaded into the memory of a chip on which no key is set
+
+entry_test : (held : Bool) (word : ℕ) → IsSome (cond held (Some word) None) → held ≡ true
+entry_test true word h = refl
+entry_test false word h = let no : false ≡ true = h in cc
+
+plain_memory : plain_settings.mem_bytes ≡ 16777216
+unfolding keys
+plain_memory = refl
+
+take_shorter : (n : ℕ) (xs : List ℕ) → length (take n xs) ≤ length xs
+take_shorter n xs = omega (arith, length-append (take n xs) (drop n xs), ap length (take-append-drop n xs))
+
+-- its words from the entry on are few, since its memory is small
+few_words : (code : CodeView) (pc : ℕ) → length code.bytes ≡ plain_settings.mem_bytes → length (words_in (bytes_behind code pc)) ≤ most_words
+few_words code pc size =
+    let range = range_at code.ranges pc in
+    let fit = words_fit (bytes_behind code pc) in
+    let short = take_shorter (range.0 + range.1 - pc) (drop (pc - code.base) code.bytes) in
+    let behind : length (drop (pc - code.base) code.bytes) ≡ length code.bytes - (pc - code.base) = length-drop (pc - code.base) code.bytes in
+    let small : length code.bytes ≡ 16777216 = size ∙ plain_memory in
+    omega (arith, fit, short, behind, small)
+
+pub loaded_back : (image : ImageView) → IsCode image.code → IsSome (word_at image.code image.entry) → length image.code.bytes ≡ plain_settings.mem_bytes → ComesBack image
+loaded_back image is fetched size =
+    text_back image is (entry_test (image.entry % 4 == 0 && is_fetched image.code.ranges image.entry) (value_at image.code.bytes (image.entry - image.code.base) 4) fetched) (few_words image.code image.entry size)
+
+pub loaded_text : (config : Settings) (bytes text : List ℕ) (image : ImageView) → config ≡ plain_settings → image ≡ image_of bytes config.mem_base config.mem_bytes
+    → IsCode image.code → IsSome (word_at (code_of bytes config.mem_base config.mem_bytes) (header_of bytes).e_entry) → length image.code.bytes ≡ config.mem_bytes → text ≡ dis_text image
+    → IsTextThatComesBack (program_image bytes) text
+loaded_text config bytes text image plain is code fetched size text_is =
+    let same : image ≡ program_image bytes = is ∙ ap (λ (c : Settings). image_of bytes c.mem_base c.mem_bytes) plain in
+    let here : IsSome (word_at image.code image.entry) = subst (λ (i : ImageView). IsSome (word_at i.code i.entry)) (sym is) fetched in
+    let whole : length image.code.bytes ≡ plain_settings.mem_bytes = size ∙ ap (λ (c : Settings). c.mem_bytes) plain in
+    let back : ComesBack image = loaded_back image code here whole in
+    subst (λ (i : ImageView). IsTextThatComesBack i text) same (record { text_is = text_is; back = back })

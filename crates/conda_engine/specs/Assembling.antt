@@ -46,6 +46,17 @@ pub record AsmAnswers (files : ProgramFiles) (old new : HostState) (answer : Sta
   pub answers : Answers (asm_command files) (asm_outcome said (bytes_of old files.source)) old new
       answer
 
+-- an answer of it: it is done, its text wasn't read or has a bad line, its image failed, or memory
+-- ran out
+abbrev pub IsAsmEnd : Status → Type 0
+IsAsmEnd status.Done = Unit {0}
+IsAsmEnd (status.ReadFault role.Source) = Unit {0}
+IsAsmEnd (status.TooLarge role.Source limit) = limit ≡ source_limit
+IsAsmEnd (status.Syntax line why) = Unit {0}
+IsAsmEnd (status.WriteFault role.Program) = Unit {0}
+IsAsmEnd status.OutOfMemory = Unit {0}
+IsAsmEnd other = ⊥
+
 -- ---- the same, read line by line
 
 abbrev pub image_or_bad : Source → Option BadLine → Result (List ℕ) Status

@@ -1,5 +1,5 @@
 -- The rows of all commands.
-use Rattle.std.specs.Prelude.{◌≡◌, List, Option, map, string_bytes}
+use Rattle.std.specs.Prelude.{◌≡◌, ◌⊎◌, List, Option, map, string_bytes}
 use Rattle.std.specs.declared.alloc.Global.{Global}
 use Rattle.std.specs.declared.string.String.{String}
 use Rattle.conda_host.specs.State.{HostState}
@@ -11,11 +11,14 @@ use Rattle.self_run.specs.Designs.{design_of_seed}
 use Rattle.conda_engine.specs.declared.status.Status.{Status}
 use Rattle.conda_engine.specs.declared.status.Status.TheVariants as status
 use Rattle.conda_engine.specs.Answers.{Answers}
-use Rattle.conda_engine.specs.Assembling.{AsmAnswers}
-use Rattle.conda_engine.specs.Disassembling.{dis_command, dis_outcome}
+use Rattle.conda_engine.specs.Assembling.{AsmAnswers, IsAsmEnd}
+use Rattle.conda_engine.specs.Disassembling.{IsDisEnd, dis_command, dis_outcome}
+use Rattle.conda_engine.specs.Ends.{IsLate}
 use Rattle.conda_engine.specs.Headline.{HasHeadlineAtDone}
+use Rattle.conda_engine.specs.Preparing.{IsEarly}
 use Rattle.conda_engine.specs.Rows.{run_command, run_outcome}
-use Rattle.conda_engine.specs.SelfRun.{self_command, self_outcome}
+use Rattle.conda_engine.specs.SelfRun.{IsSelfEnd, self_command, self_outcome}
+use Rattle.conda_engine.specs.TextLaws.{HasLoadableImageAtDone, HasTextThatComesBackAtDone}
 use Rattle.conda_engine.specs.Verdict.{chip_account}
 
 -- what the words ask for, if they are the words of a command
@@ -32,10 +35,19 @@ AnswersAsked old new answer (Dis files) =
 AnswersAsked old new answer (SelfRun seed events report) =
     Answers (self_command report) (self_outcome chip_account seed events) old new answer
 
--- what holds at Done besides: a run has the headline, and the events of a generated workload are
--- lawful
+-- an answer of a command, whatever its host tells
+abbrev pub IsEnd : Status → Asked → Type 0
+IsEnd answer (Run files) = IsEarly answer ⊎ IsLate answer
+IsEnd answer (SelfRun seed events report) = IsSelfEnd answer
+IsEnd answer (Asm files) = IsAsmEnd answer
+IsEnd answer (Dis files) = IsDisEnd answer
+
+-- what holds at Done besides: a run has the headline, the events of a generated workload are
+-- lawful, a program that is assembled can be loaded, and the text of an image is assembled to it
+-- again
 abbrev pub HoldsAtDone : HostState → HostState → Status → Asked → Type 0
 HoldsAtDone old new answer (Run files) = HasHeadlineAtDone files old new answer
 HoldsAtDone old new answer (SelfRun seed events report) =
     answer ≡ status.Done → AreLawful (design_of_seed seed) (events_of_seed seed events)
-HoldsAtDone old new answer other = Unit {0}
+HoldsAtDone old new answer (Asm files) = HasLoadableImageAtDone files old new answer
+HoldsAtDone old new answer (Dis files) = HasTextThatComesBackAtDone files old new answer

@@ -1,5 +1,5 @@
 -- What `dis` writes of a program, and its row.
-use Rattle.std.specs.Prelude.{ℕ, ◌+◌, ◌-◌, List, [], ◌∷◌, ◌++◌, take, drop, Option, Some, None, Result, Ok, Err, if◌then◌else◌}
+use Rattle.std.specs.Prelude.{◌≡◌, ℕ, ◌+◌, ◌-◌, List, [], ◌∷◌, ◌++◌, take, drop, Option, Some, None, Result, Ok, Err, if◌then◌else◌}
 use Rattle.conda_base.specs.Bytes.{number_of}
 use Rattle.conda_host.specs.declared.outside.Role.TheVariants as role
 use Rattle.chip_config.specs.Settings.{plain_settings}
@@ -60,3 +60,14 @@ dis_command files = making_command role.Program files.program role.Source files.
 -- what a program's bytes lead to
 abbrev pub dis_outcome : List ℕ → Outcome
 dis_outcome bytes = making_outcome role.Program image_limit (text_said bytes) bytes
+
+-- an answer of it: it is done, its program wasn't read or is refused, its text failed, or memory
+-- ran out
+abbrev pub IsDisEnd : Status → Type 0
+IsDisEnd status.Done = Unit {0}
+IsDisEnd (status.ReadFault role.Program) = Unit {0}
+IsDisEnd (status.TooLarge role.Program limit) = limit ≡ image_limit
+IsDisEnd (status.Image fault) = Unit {0}
+IsDisEnd (status.WriteFault role.Source) = Unit {0}
+IsDisEnd status.OutOfMemory = Unit {0}
+IsDisEnd other = ⊥

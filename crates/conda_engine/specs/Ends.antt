@@ -1,9 +1,10 @@
 -- How a run ends from where its schedule is opened.
-use Rattle.std.specs.Prelude.{ℕ, List, IsTrue}
+use Rattle.std.specs.Prelude.{◌≡◌, ◌⊎◌, ℕ, List, IsTrue}
 use Rattle.conda_base.specs.declared.actor.Actor.{Actor}
 use Rattle.conda_host.specs.declared.outside.Role.TheVariants as role
 use Rattle.conda_host.specs.State.{HostState}
 use Rattle.chip_laws.specs.Design.{Design}
+use Rattle.schedule_log.specs.Verdict.{most_bytes, most_events}
 use Rattle.machine_run.specs.declared.machine.Machine.{Ghosts}
 use Rattle.conda_engine.specs.declared.status.Status.{Status}
 use Rattle.conda_engine.specs.declared.status.Status.TheVariants as status
@@ -26,6 +27,7 @@ IsLate (status.ReadFault role.Schedule) = Unit {0}
 IsLate (status.WriteFault role.Order) = Unit {0}
 IsLate (status.WriteFault role.Report) = Unit {0}
 IsLate (status.WriteFault role.Output) = Unit {0}
+IsLate (status.TooLarge role.Schedule limit) = (limit ≡ most_events) ⊎ (limit ≡ most_bytes)
 IsLate other = IsRunEnd other
 
 -- the events of a run that came to this end: at Done all of the schedule's

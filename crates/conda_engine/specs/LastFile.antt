@@ -1,5 +1,5 @@
 -- A file that is made at a command's end.
-use Rattle.std.specs.Prelude.{ℕ, false, ◌==◌, List, Option, Some, None, if◌then◌else◌}
+use Rattle.std.specs.Prelude.{◌≡◌, ◌⊎◌, ℕ, false, ◌==◌, List, Option, Some, None, if◌then◌else◌}
 use Rattle.conda_host.specs.declared.outside.Role.{Role}
 use Rattle.conda_host.specs.Role.{index_of}
 use Rattle.conda_engine.specs.declared.status.Status.{Status}
@@ -28,6 +28,10 @@ file_command role name = record {
   opens_first = None;
   takes_memory = false;
 }
+
+-- an answer of them: the file is made, or creating or writing it failed
+abbrev pub IsFileEnd : Role → Status → Type 0
+IsFileEnd role answer = (answer ≡ status.Done) ⊎ (answer ≡ status.WriteFault role)
 
 -- a text for one file
 abbrev pub text_outcome : List ℕ → Outcome

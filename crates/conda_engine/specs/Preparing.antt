@@ -133,8 +133,8 @@ IsEarly (status.ReadFault role.Config) = Unit {0}
 IsEarly (status.ReadFault role.Image) = Unit {0}
 IsEarly (status.Config fault) = Unit {0}
 IsEarly (status.Image fault) = Unit {0}
-IsEarly (status.TooLarge role.Config limit) = Unit {0}
-IsEarly (status.TooLarge role.Image limit) = Unit {0}
+IsEarly (status.TooLarge role.Config limit) = limit ≡ config_limit
+IsEarly (status.TooLarge role.Image limit) = limit ≡ image_limit
 IsEarly status.OutOfMemory = Unit {0}
 IsEarly other = ⊥
 

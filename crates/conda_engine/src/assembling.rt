@@ -3,10 +3,11 @@ ghost use Rattle.std.specs.Prelude.{◌≡◌, ◌≢◌, ℕ, List, Ok, IfOk, I
 ghost use Rattle.conda_host.specs.State.{IsReading};
 ghost use Rattle.conda_host.specs.declared.outside.Role.TheVariants as role;
 ghost use Rattle.command_words.specs.Words.{program_named};
-ghost use Rattle.conda_engine.specs.Assembling.{AsmAnswers, image_read, source_limit};
+ghost use Rattle.conda_engine.specs.Assembling.{AsmAnswers, IsAsmEnd, image_read, source_limit};
 ghost use Rattle.rv32_asm.specs.Faults.{IsFault};
 ghost use Rattle.conda_engine.specs.Making.{IsMadeText, IsMakeError, IsSaidError};
 ghost use Rattle.conda_engine.specs.StatusText.{IsTold};
+ghost use Rattle.conda_engine.specs.TextLaws.{HasLoadableImageAtDone};
 
 use crate::Status;
 use crate::limits::SOURCE_LIMIT;
@@ -20,6 +21,7 @@ use std::alloc::Global;
 // How a text that is no program ends the command.
 fn status_of(fault: AsmFault) -> Status
     ensures said { (text : List ℕ) → IsFault text fault → IsSaidError (image_read text) result }
+    ensures end { IsAsmEnd result }
     ensures told { IsTold result }
 {
     match fault {
@@ -32,6 +34,7 @@ fn status_of(fault: AsmFault) -> Status
 fn image_in(alloc: Global, text: &[u8]) -> Result<Vec<u8>, Status>
     ensures ok { IfOk result (λ image. image_read text.now ≡ Ok image.items) }
     ensures err { IfErr result (IsSaidError (image_read text.now)) }
+    ensures end { IfErr result IsAsmEnd }
     ensures told { IfErr result IsTold }
 {
     match assemble(alloc, text) {
@@ -42,10 +45,11 @@ fn image_in(alloc: Global, text: &[u8]) -> Result<Vec<u8>, Status>
 
 // The image of a text's file.
 fn read_image<H: Host>(alloc: Global, source: &str, host: &mut H) -> Result<Vec<u8>, Status>
-    ensures ok { IfOk result (λ image. IsMadeText image_read (H.state host.old) source.now source_limit
-        image.items) }
+    ensures ok { IfOk result (λ image. IsMadeText image_read (H.state host.old) source.now
+        source_limit image.items) }
     ensures err { IfErr result (IsMakeError image_read (H.state host.old) (H.state host.new)
         role.Source source.now source_limit) }
+    ensures end { IfErr result IsAsmEnd }
     ensures told { IfErr result IsTold }
     ensures rest { IsReading (H.state host.old) (H.state host.new) role.Source }
 {
@@ -57,6 +61,9 @@ fn read_image<H: Host>(alloc: Global, source: &str, host: &mut H) -> Result<Vec<
 pub fn asm<H: Host>(alloc: Global, files: &ProgramFiles, host: &mut H) -> Status
     ensures answers { AsmAnswers (program_named files.now) (H.state host.old) (H.state host.new)
         result }
+    ensures loadable { HasLoadableImageAtDone (program_named files.now) (H.state host.old)
+        (H.state host.new) result }
+    ensures end { IsAsmEnd result }
     ensures told { IsTold result }
     ensures known { result ≢ Status.Usage }
 {

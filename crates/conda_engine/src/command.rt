@@ -1,9 +1,11 @@
 // The commands.
-ghost use Rattle.std.specs.Prelude.{◌≡◌, ◌≢◌, ◌↔◌, None, IfSome};
+ghost use Rattle.std.specs.Prelude.{◌≡◌, ◌≢◌, ◌⊎◌, ◌↔◌, None, IfSome};
 ghost use Rattle.command_words.specs.Words.{AreApart, named};
 ghost use Rattle.conda_engine.specs.Answers.{Answers};
-ghost use Rattle.conda_engine.specs.Commands.{AnswersAsked, HoldsAtDone, asked_of};
+ghost use Rattle.conda_engine.specs.Commands.{AnswersAsked, HoldsAtDone, IsEnd, asked_of};
+ghost use Rattle.conda_engine.specs.Ends.{IsLate};
 ghost use Rattle.conda_engine.specs.Headline.{HasHeadlineAtDone};
+ghost use Rattle.conda_engine.specs.Preparing.{IsEarly};
 ghost use Rattle.conda_engine.specs.Rows.{run_command, run_outcome};
 ghost use Rattle.conda_engine.specs.StatusText.{IsTold};
 ghost use Rattle.conda_engine.specs.Verdict.{chip_account};
@@ -27,6 +29,7 @@ fn run<H: Host>(alloc: Global, names: &RunFiles, host: &mut H) -> Status
         (H.state host.old) (H.state host.new) result }
     ensures headline { HasHeadlineAtDone (named names.now) (H.state host.old) (H.state host.new)
         result }
+    ensures end { IsEarly result ⊎ IsLate result }
     ensures told { IsTold result }
     ensures known { result ≢ Status.Usage }
 {
@@ -52,8 +55,12 @@ pub fn conda<H: Host>(alloc: Global, words: &[String], host: &mut H) -> Status
     ensures answers { IfSome (asked_of words.now)
         (AnswersAsked (H.state host.old) (H.state host.new) result) }
 
+    // Whatever the host tells, it is an answer that the command has.
+    ensures end { IfSome (asked_of words.now) (IsEnd result) }
+
     // At Done the files of a run are the texts of one flat memory that executes the written order,
-    // and the laws hold of its events, as of those of a generated workload.
+    // and the laws hold of its events, as of those of a generated workload. A program that is
+    // assembled can be loaded, and the text of an image is assembled to it again.
     ensures headline { IfSome (asked_of words.now)
         (HoldsAtDone (H.state host.old) (H.state host.new) result) }
 

@@ -1,5 +1,5 @@
 // A program's image as text.
-ghost use Rattle.std.specs.Prelude.{◌≡◌, ◌≢◌, Ok, ◌+◌, ◌-◌, ◌++◌, ◌∷◌, [], IfOk, IfErr, OnOk, take, drop, codes};
+ghost use Rattle.std.specs.Prelude.{◌≡◌, ◌≢◌, IsTrue, Ok, ◌+◌, ◌-◌, ◌++◌, ◌∷◌, [], IfOk, IfErr, OnOk, take, drop, codes};
 ghost use Rattle.std.specs.Fmt.{decimal};
 ghost use Rattle.std.specs.List.{flat_map};
 ghost use Rattle.conda_host.specs.State.{IsReading};
@@ -7,10 +7,12 @@ ghost use Rattle.conda_host.specs.declared.outside.Role.TheVariants as role;
 ghost use Rattle.command_run.specs.Driving.{bytes_of};
 ghost use Rattle.command_words.specs.Words.{program_named};
 ghost use Rattle.conda_engine.specs.Answers.{Answers};
-ghost use Rattle.conda_engine.specs.Disassembling.{bytes_behind, dis_command, dis_outcome, dis_text, line_of, range_at, text_said, words_in};
+ghost use Rattle.conda_engine.specs.Disassembling.{IsDisEnd, bytes_behind, dis_command, dis_outcome, dis_text, line_of, range_at, program_image, text_said, words_in};
 ghost use Rattle.conda_engine.specs.Making.{IsMadeText, IsMakeError, IsSaidError};
 ghost use Rattle.conda_engine.specs.StatusText.{IsTold};
+ghost use Rattle.conda_engine.specs.TextLaws.{HasTextThatComesBackAtDone, IsTextThatComesBack};
 ghost use Rattle.conda_engine.specs.Verdict.{image_limit};
+ghost use Rattle.rv32_hart.specs.Code.{IsCode};
 
 use crate::Status;
 use crate::limits::IMAGE_LIMIT;
@@ -21,7 +23,7 @@ use chip_config::Config;
 use command_words::ProgramFiles;
 use conda_base::{push_bytes, push_decimal};
 use conda_host::{Host, Role};
-use elf_loader::Image;
+use elf_loader::{Image, entry_can_be_fetched};
 use rv32_dis::word_text;
 use rv32_hart::Code;
 use std::alloc::{AllocError, Global};
@@ -55,7 +57,8 @@ fn bytes_at(bytes: &[u8], place: usize, count: usize) -> &[u8]
 
 // The bytes from an address to the end of its range.
 fn bytes_behind(code: &Code, pc: u32) -> &[u8]
-    ensures { result.now ≡ bytes_behind code.now pc }
+    ensures bytes { result.now ≡ bytes_behind code.now pc }
+    ensures code { IsCode code.now }
 {
     let (first, count) = range_at(code.ranges(), pc);
     let end = u64::from(first) + u64::from(count);
@@ -111,7 +114,8 @@ fn push_address(text: &mut Vec<u8>, at: u32) -> Result<(), AllocError>
 
 // The text of an image.
 fn text_of_image(alloc: Global, image: &Image) -> Result<Vec<u8>, AllocError>
-    ensures { IfOk result (λ text. text.items ≡ dis_text image.now) }
+    ensures text { IfOk result (λ text. text.items ≡ dis_text image.now) }
+    ensures code { IfOk result (λ text. IsCode image.now.code) }
 {
     let mut text = Vec::new(alloc);
     push_address(&mut text, image.entry())?;
@@ -122,21 +126,27 @@ fn text_of_image(alloc: Global, image: &Image) -> Result<Vec<u8>, AllocError>
 // The text that a program's bytes say, in the memory of a chip on which no key is set.
 fn text_in(alloc: Global, bytes: &[u8]) -> Result<Vec<u8>, Status>
     ensures ok { IfOk result (λ text. text_said bytes.now ≡ Ok text.items) }
+    ensures back { IfOk result (λ text. IsTextThatComesBack (program_image bytes.now) text.items) }
     ensures err { IfErr result (IsSaidError (text_said bytes.now)) }
+    ensures end { IfErr result IsDisEnd }
     ensures told { IfErr result IsTold }
 {
     let config = Config::plain();
     let image = image_in(alloc, &config, bytes)?;
+    entry_can_be_fetched(bytes, config.mem_base, config.mem_bytes);
     let text = text_of_image(alloc, &image)?;
     Ok(text)
 }
 
 // The text of a program's file.
 fn read_text<H: Host>(alloc: Global, program: &str, host: &mut H) -> Result<Vec<u8>, Status>
-    ensures ok { IfOk result (λ text. IsMadeText text_said (H.state host.old) program.now image_limit
-        text.items) }
+    ensures ok { IfOk result (λ text. IsMadeText text_said (H.state host.old) program.now
+        image_limit text.items) }
+    ensures back { IfOk result (λ text. IsTrue (H.state host.old).tells → IsTextThatComesBack
+        (program_image (bytes_of (H.state host.old) program.now)) text.items) }
     ensures err { IfErr result (IsMakeError text_said (H.state host.old) (H.state host.new)
         role.Program program.now image_limit) }
+    ensures end { IfErr result IsDisEnd }
     ensures told { IfErr result IsTold }
     ensures rest { IsReading (H.state host.old) (H.state host.new) role.Program }
 {
@@ -149,6 +159,9 @@ pub fn dis<H: Host>(alloc: Global, files: &ProgramFiles, host: &mut H) -> Status
     ensures answers { Answers (dis_command (program_named files.now))
         (dis_outcome (bytes_of (H.state host.old) files.now.program.now)) (H.state host.old)
         (H.state host.new) result }
+    ensures back { HasTextThatComesBackAtDone (program_named files.now) (H.state host.old)
+        (H.state host.new) result }
+    ensures end { IsDisEnd result }
     ensures told { IsTold result }
     ensures known { result ≢ Status.Usage }
 {

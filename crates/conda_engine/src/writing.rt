@@ -2,7 +2,7 @@
 ghost use Rattle.std.specs.Prelude.{◌≢◌};
 ghost use Rattle.conda_engine.specs.Answers.{Answers};
 ghost use Rattle.conda_engine.specs.StatusText.{IsTold};
-ghost use Rattle.conda_engine.specs.LastFile.{file_command, text_outcome};
+ghost use Rattle.conda_engine.specs.LastFile.{IsFileEnd, file_command, text_outcome};
 
 use crate::Status;
 use conda_host::{Host, HostFailed, Role, write_all};
@@ -12,6 +12,7 @@ pub fn write_file<H: Host>(host: &mut H, role: Role, name: &str, text: &[u8]) ->
     ensures answers { Answers (file_command role name.now) (text_outcome text.now)
         (H.state host.old)
         (H.state host.new) result }
+    ensures end { IsFileEnd role result }
     ensures told { IsTold result }
     ensures known { result ≢ Status.Usage }
 {

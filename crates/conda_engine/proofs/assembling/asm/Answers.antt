@@ -1,7 +1,8 @@
 use Rattle.conda_host.specs.declared.outside.Role.TheVariants as role
 use Rattle.command_run.specs.Driving.{bytes_of}
 use Rattle.conda_engine.specs.Assembling.{image_read, source_limit}
-use Rattle.conda_engine.proofs.AssemblingFacts.{says_read}
+use Rattle.command_words.specs.Words.{program_named}
+use Rattle.conda_engine.proofs.AssemblingFacts.{asm_ends, loadable_made, loadable_unmade, says_read}
 use Rattle.conda_engine.proofs.MakingFacts.{made_answers, refused_answers}
 use Rattle.conda_engine.proofs.assembling.asm.Goals as goal
 
@@ -22,3 +23,15 @@ returns-in-Err-clause-answers g c = record {
       c.args.files.now.source.now c.args.files.now.program.now c.in-Err.status
       c.in-Err.ensures.err c.in-Err.ensures.rest;
 }
+
+pub returns-in-Ok-clause-loadable : goal.returns-in-Ok-clause-loadable
+returns-in-Ok-clause-loadable g c =
+    loadable_made (program_named c.args.files.now) (g.H.Host.state c.args.host.now) (g.H.Host.state c.read_image.new.host) (g.H.Host.state c.write_file.new.host) c.in-Ok.image.items c.write_file.result
+    c.in-Ok.ensures.ok c.in-Ok.ensures.rest (rw c.deref.ensures.value at c.write_file.ensures.answers)
+
+pub returns-in-Err-clause-loadable : goal.returns-in-Err-clause-loadable
+returns-in-Err-clause-loadable g c =
+    loadable_unmade (program_named c.args.files.now) (g.H.Host.state c.args.host.now) (g.H.Host.state c.read_image.new.host) c.in-Err.status c.in-Err.ensures.err
+
+pub returns-in-Ok-clause-end : goal.returns-in-Ok-clause-end
+returns-in-Ok-clause-end g c = asm_ends c.write_file.result c.write_file.ensures.end

@@ -1,4 +1,4 @@
-use Rattle.std.proofs.Common.{Some}
+use Rattle.std.proofs.Common.{Some, inl, inr}
 use Rattle.command_words.specs.Words.{named}
 use Rattle.conda_engine.specs.Verdict.{chip_account}
 use Rattle.conda_engine.proofs.CommandFacts.{answers_for, unready_for}
@@ -23,3 +23,9 @@ returns-in-Ok-clause-headline g c =
 pub returns-in-Err-clause-headline : goal.returns-in-Err-clause-headline
 returns-in-Err-clause-headline g c =
     unready_headline (Some (named c.args.names.now)) (g.H.Host.state c.args.host.now) (g.H.Host.state c.prepare_files-prepared.new.host) c.in-Err.status c.in-Err.ensures.unready
+
+pub returns-in-Ok-clause-end : goal.returns-in-Ok-clause-end
+returns-in-Ok-clause-end g c = inr c.drive-status.ensures.late
+
+pub returns-in-Err-clause-end : goal.returns-in-Err-clause-end
+returns-in-Err-clause-end g c = inl c.in-Err.ensures.unready.early
