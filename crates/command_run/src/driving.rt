@@ -4,7 +4,7 @@ ghost use Rattle.conda_host.specs.State.{is_created, IsCreating, Creates};
 ghost use Rattle.conda_host.specs.declared.outside.Role.TheVariants as role;
 ghost use Rattle.chip_laws.specs.Design.{Design};
 ghost use Rattle.streams.specs.Using.{KeepsTo};
-ghost use Rattle.machine_run.specs.Tasks.{IsNewTask};
+ghost use Rattle.machine_run.specs.Tasks.{AreReportSinks, IsNewTask};
 ghost use Rattle.run_report.specs.Texts.{report_text};
 ghost use Rattle.command_run.specs.Names.{CreatesOnceOpened, HaveDistinctNames, FaultRose, named, text_uses, report_uses, run_uses};
 ghost use Rattle.command_run.specs.Driving.{AreMadeTexts, IsStarted, RunsTexts, LeavesFiles, CreatedHoldsFront, CreatedHoldFronts, TextFronts, bytes_of};
@@ -15,7 +15,7 @@ use crate::reporting::write_report;
 use conda_host::{Host, Role};
 use machine_run::{Ending, Machine, Run, Task, run_files};
 use run_report::Shown;
-use streams::Fault;
+use streams::{Fault, Sinks};
 
 // Creates the output's file, where it is named.
 fn create_output<H: Host>(names: &RunNames, host: &mut H) -> Result<(), Fault>
@@ -83,6 +83,7 @@ fn run_texts<M: Machine, H: Host>(
     ensures cause { IfErr result (FaultRose (named names.now) (H.state host.old)
         (H.state host.new)) }
     ensures opened { IsTrue ((H.state host.new).role role.Schedule).opened }
+    ensures report { task.new.report ≡ task.old.report }
     ensures keeps { KeepsTo (text_uses (named names.now)) (H.state host.old) (H.state host.new) }
 {
     run_files(task, host)
@@ -92,8 +93,10 @@ fn run_texts<M: Machine, H: Host>(
 fn report<M: Machine + Shown, H: Host>(
     names: &RunNames,
     run: &Run<M>,
+    sinks: &mut Sinks,
     host: &mut H,
 ) -> Result<(), Fault>
+    requires { AreReportSinks sinks.old }
     ensures ok { OnOk result (IsTrue (H.state host.old).tells
         → (H.state host.new).file (named names.now).report
         ≡ Some (report_text (M.shown run.now.machine) run.now.events run.now.output_bytes)) }
@@ -107,7 +110,7 @@ fn report<M: Machine + Shown, H: Host>(
     ensures keeps { KeepsTo (report_uses (named names.now).report) (H.state host.old)
         (H.state host.new) }
 {
-    write_report(names.report, run, host)
+    write_report(names.report, run, sinks, host)
 }
 
 /// Runs the schedule of a run that is ready, and writes its files. It takes no memory.
@@ -149,7 +152,7 @@ pub fn carry_out<M: Machine + Shown, H: Host>(
     let ending = run_texts(names, task, host)?;
     match ending {
         Ending::Whole => {
-            report(names, &task.run, host)?;
+            report(names, &task.run, &mut task.report, host)?;
             Ok(Ending::Whole)
         }
         stop => Ok(stop),

@@ -1,6 +1,7 @@
 // The command that runs a generated workload.
 ghost use Rattle.std.specs.Prelude.{◌≡◌, ◌≤◌, ℕ, IfOk, IsOk};
 ghost use Rattle.chip_laws.specs.Lawful.{AreLawful};
+ghost use Rattle.machine_run.specs.Tasks.{AreReportSinks};
 ghost use Rattle.run_report.specs.Texts.{report_text};
 ghost use Rattle.schedule_log.specs.Verdict.{most_events};
 ghost use Rattle.self_run.specs.Designs.{design_of_seed};
@@ -16,18 +17,25 @@ use crate::Status;
 use chip_core::Chip;
 use command_run::write_report;
 use conda_host::{Host, Role};
-use machine_run::{Machine, Run, Simulator};
+use machine_run::{Machine, Run, Simulator, report_sinks};
 use self_run::run_workload;
 use std::alloc::{AllocError, Global};
+use streams::Sinks;
 
 // Writes the report of a run as the only file. It takes no memory.
-fn report_run<M: Simulator, H: Host>(run: &Run<M>, report: &str, host: &mut H) -> Status
+fn report_run<M: Simulator, H: Host>(
+    run: &Run<M>,
+    sinks: &mut Sinks,
+    report: &str,
+    host: &mut H,
+) -> Status
+    requires { AreReportSinks sinks.old }
     ensures answers { Answers (self_command report.now) (text_outcome
         (report_text (M.shown run.now.machine) run.now.events run.now.output_bytes))
         (H.state host.old) (H.state host.new) result }
     ensures end { IsSelfEnd result }
 {
-    match write_report(report, run, host) {
+    match write_report(report, run, sinks, host) {
         Ok(()) => Status::Done,
         Err(_) => Status::WriteFault(Role::Report),
     }
@@ -36,9 +44,11 @@ fn report_run<M: Simulator, H: Host>(run: &Run<M>, report: &str, host: &mut H) -
 // Writes the report of the first events of a seed's workload, where there was memory for them.
 fn report_on<M: Simulator, H: Host>(
     ran: Result<Run<M>, AllocError>,
+    sinks: &mut Sinks,
     report: &str,
     host: &mut H,
 ) -> Status
+    requires { AreReportSinks sinks.old }
     ensures answers { (seed count : ℕ) → IfOk ran (HasRunFirst ⟦<M as Machine>⟧ seed count)
         → Answers (self_command report.now)
         (self_outcome (account_of ⟦<M as Machine>⟧ M.report) seed count)
@@ -47,7 +57,7 @@ fn report_on<M: Simulator, H: Host>(
     ensures ok { result ≡ Status.Done → IsOk ran }
 {
     match ran {
-        Ok(run) => report_run(&run, report, host),
+        Ok(run) => report_run(&run, sinks, report, host),
         Err(AllocError) => Status::OutOfMemory,
     }
 }
@@ -72,6 +82,9 @@ pub fn self_run<H: Host>(
     ensures lawful { result ≡ Status.Done
         → AreLawful (design_of_seed seed) (events_of_seed seed events) }
 {
+    let Ok(mut sinks) = report_sinks(alloc) else {
+        return Status::OutOfMemory;
+    };
     let ran: Result<Run<Chip>, AllocError> = run_workload(alloc, seed, events);
-    report_on(ran, report, host)
+    report_on(ran, &mut sinks, report, host)
 }

@@ -42,6 +42,7 @@ pub fn run_files<M: Machine, H: Host>(task: &mut Task<M>, host: &mut H) -> Resul
         (H.state host.old).tells
         → RunsFiles ⟦<M as Machine>⟧ d ((H.state host.old).role role.Schedule).left
         (H.state host.new) (has_sink task.new.sinks) task.new.run result }
+    ensures report { task.new.report ≡ task.old.report }
     ensures led { IsLed role.Schedule task.old.sinks task.new.sinks (H.state host.old)
         (H.state host.new) (fault_in result) }
 {

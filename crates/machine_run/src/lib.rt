@@ -15,6 +15,7 @@ mod task;
 pub use ending::Ending;
 pub use filing::run_files;
 pub use machine::Machine;
+pub use new_sinks::report_sinks;
 pub use run::Run;
 pub use schedule_run::run_schedule;
 pub use simulator::Simulator;

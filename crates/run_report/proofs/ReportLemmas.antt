@@ -9,9 +9,9 @@ use Rattle.std.proofs.lemmas.Option.{slice_get_cases, slice_get_within, get_or_f
 use Rattle.conda_base.specs.declared.Line.{Line}
 use Rattle.conda_base.specs.declared.Mesi.{Mesi}
 use Rattle.traffic_trace.specs.declared.note.Note.{Note}
-use Rattle.conda_host.specs.State.{HostState, is_created}
 use Rattle.conda_host.specs.declared.outside.Role.TheVariants.{Report}
-use Rattle.conda_host.proofs.Steps.{reading_refl, writing_trans, writing_of_reading, whole_nothing, whole_then_whole, whole_then_part, part_longer, rose_for_all_after}
+use Rattle.streams.specs.Seen.{Seen}
+use Rattle.streams.proofs.PutFacts.{puts_nothing, puts_trans, puts_front, front_and_more}
 use Rattle.rv32_hart.specs.declared.regs.Regs.{Regs}
 use Rattle.offload_calls.specs.declared.status.HartStatus.{HartStatus}
 use Rattle.offload_calls.specs.declared.status.CoreStatus.{CoreStatus}
@@ -25,17 +25,17 @@ use Rattle.run_report.specs.View.{View, IsShown, IsAddressed, line_of}
 use Rattle.run_report.specs.Texts.{changed_line_text, texts_below, register_text, registers_text, hart_line_text, core_line_text, hart_text, core_text, harts_text, cores_text, changed_text, changes_text, text_if_some, tag_text, slot_text, set_text, cache_text, caches_text, note_text, note_at_text, notes_text}
 use Rattle.run_report.specs.Writes.{Wrote, WrotePart}
 
-pub wrote_nothing : (a : HostState) → IsTrue (is_created a Report) → Wrote a a []
-wrote_nothing a created = record { whole = whole_nothing a Report; rest = writing_of_reading created refl (reading_refl a Report) }
+pub wrote_nothing : (a : Seen) → Wrote a a []
+wrote_nothing a = puts_nothing a Report
 
-pub wrote_then : {a b c : HostState} {s t : List ℕ} → Wrote a b s → Wrote b c t → Wrote a c (s ++ t)
-wrote_then p q = record { whole = whole_then_whole p.rest p.whole q.whole; rest = writing_trans p.rest q.rest }
+pub wrote_then : {a b c : Seen} {s t : List ℕ} → Wrote a b s → Wrote b c t → Wrote a c (s ++ t)
+wrote_then p q = puts_trans p q
 
-pub part_then : {a b c : HostState} {s t : List ℕ} → Wrote a b s → WrotePart b c t → WrotePart a c (s ++ t)
-part_then p q = record { part = whole_then_part p.rest p.whole q.part; cause = rose_for_all_after p.rest.later q.cause; rest = writing_trans p.rest q.rest }
+pub part_then : {a b c : Seen} {s t : List ℕ} → Wrote a b s → WrotePart b c t → WrotePart a c (s ++ t)
+part_then p q = puts_front p q
 
-pub part_and_more : {a b : HostState} {s : List ℕ} (t : List ℕ) → WrotePart a b s → WrotePart a b (s ++ t)
-part_and_more t p = record { part = part_longer t p.part; cause = p.cause; rest = p.rest }
+pub part_and_more : {a b : Seen} {s : List ℕ} (t : List ℕ) → WrotePart a b s → WrotePart a b (s ++ t)
+part_and_more t p = front_and_more t p
 
 -- what holds on Ok, and on Err
 pub on_ok_map : {T E P Q : Type 0} (r : Result T E) → (P → Q) → OnOk r P → OnOk r Q
@@ -51,28 +51,28 @@ on_err (Ok x) p = tt
 on_err (Err e) p = p
 
 -- two pieces, of which the second is the last call, and a first piece that fails
-pub two_ok : {T E : Type 0} (r : Result T E) {a b : HostState} (c : HostState) {s : List ℕ} (t : List ℕ) {whole : List ℕ} → whole ≡ s ++ t → Wrote a b s → OnOk r (Wrote b c t) → OnOk r (Wrote a c whole)
+pub two_ok : {T E : Type 0} (r : Result T E) {a b : Seen} (c : Seen) {s : List ℕ} (t : List ℕ) {whole : List ℕ} → whole ≡ s ++ t → Wrote a b s → OnOk r (Wrote b c t) → OnOk r (Wrote a c whole)
 two_ok r {a = a} c t is p q = on_ok_map r (λ last. subst (λ x. Wrote a c x) (sym is) (wrote_then p last)) q
 
-pub two_err : {T E : Type 0} (r : Result T E) {a b : HostState} (c : HostState) {s : List ℕ} (t : List ℕ) {whole : List ℕ} → whole ≡ s ++ t → Wrote a b s → OnErr r (WrotePart b c t) → OnErr r (WrotePart a c whole)
+pub two_err : {T E : Type 0} (r : Result T E) {a b : Seen} (c : Seen) {s : List ℕ} (t : List ℕ) {whole : List ℕ} → whole ≡ s ++ t → Wrote a b s → OnErr r (WrotePart b c t) → OnErr r (WrotePart a c whole)
 two_err r {a = a} c t is p q = on_err_map r (λ last. subst (λ x. WrotePart a c x) (sym is) (part_then p last)) q
 
-pub one_err : {T E : Type 0} (r : Result T E) {a b : HostState} {s : List ℕ} (t : List ℕ) {whole : List ℕ} → whole ≡ s ++ t → WrotePart a b s → OnErr r (WrotePart a b whole)
+pub one_err : {T E : Type 0} (r : Result T E) {a b : Seen} {s : List ℕ} (t : List ℕ) {whole : List ℕ} → whole ≡ s ++ t → WrotePart a b s → OnErr r (WrotePart a b whole)
 one_err r {a = a} {b = b} t is p = on_err r (subst (λ x. WrotePart a b x) (sym is) (part_and_more t p))
 
 -- a loop over pieces: none, one more, and all
-pub loop_none : {a : HostState} (text : ℕ → List ℕ) → IsTrue (is_created a Report) → Wrote a a (texts_below text 0)
+pub loop_none : (a : Seen) (text : ℕ → List ℕ) → Wrote a a (texts_below text 0)
 unfolding texts_below
-loop_none {a = a} text created = wrote_nothing a created
+loop_none a text = wrote_nothing a
 
 texts_next : (text : ℕ → List ℕ) (n : ℕ) → texts_below text (n + 1) ≡ texts_below text n ++ text n
 unfolding texts_below
 texts_next text n = rw (add-one) refl
 
-pub loop_next : {a b c : HostState} (text : ℕ → List ℕ) (n : ℕ) → Wrote a b (texts_below text n) → Wrote b c (text n) → Wrote a c (texts_below text (n + 1))
+pub loop_next : {a b c : Seen} (text : ℕ → List ℕ) (n : ℕ) → Wrote a b (texts_below text n) → Wrote b c (text n) → Wrote a c (texts_below text (n + 1))
 loop_next {a = a} {c = c} text n p q = subst (λ t. Wrote a c t) (sym (texts_next text n)) (wrote_then p q)
 
-pub loop_all : {a b : HostState} {whole : List ℕ} (text : ℕ → List ℕ) (n all : ℕ) → whole ≡ texts_below text all → n ≡ all → Wrote a b (texts_below text n) → Wrote a b whole
+pub loop_all : {a b : Seen} {whole : List ℕ} (text : ℕ → List ℕ) (n all : ℕ) → whole ≡ texts_below text all → n ≡ all → Wrote a b (texts_below text n) → Wrote a b whole
 loop_all {a = a} {b = b} text n all is end p = subst (λ t. Wrote a b t) (ap (texts_below text) end ∙ sym is) p
 
 -- what the pieces that are left add
@@ -85,7 +85,7 @@ texts_left text n (suc k) =
     (left.0 ++ text (n + k), ap (texts_below text) more ∙ ap (λ t. t ++ text (n + k)) left.1 ∙ append_assoc (texts_below text n) left.0 (text (n + k)))
 
 -- a loop fails in its piece n
-pub loop_err : {T E : Type 0} (r : Result T E) {a b c : HostState} {whole : List ℕ} (text : ℕ → List ℕ) (n all : ℕ) → whole ≡ texts_below text all → n < all → Wrote a b (texts_below text n) → WrotePart b c (text n) → OnErr r (WrotePart a c whole)
+pub loop_err : {T E : Type 0} (r : Result T E) {a b c : Seen} {whole : List ℕ} (text : ℕ → List ℕ) (n all : ℕ) → whole ≡ texts_below text all → n < all → Wrote a b (texts_below text n) → WrotePart b c (text n) → OnErr r (WrotePart a c whole)
 loop_err r text n all is below p q =
     let left = texts_left text (n + 1) (all - (n + 1)) in
     let sum : n + 1 + (all - (n + 1)) ≡ all = omega arith in

@@ -1,16 +1,12 @@
 -- What writing a piece of the report does.
 use Rattle.std.specs.Prelude.{ℕ, List}
-use Rattle.conda_host.specs.State.{HostState, IsWriting, RoseForAll}
-use Rattle.conda_host.specs.Whole.{WritesWhole, WritesPart}
 use Rattle.conda_host.specs.declared.outside.Role.TheVariants.{Report}
+use Rattle.streams.specs.Seen.{Seen, Puts, PutsFront}
 
--- all of the text was appended to the report
-pub record Wrote (old new : HostState) (text : List ℕ) : Type 0 where
-  pub whole : WritesWhole old new Report text
-  pub rest : IsWriting old new Report
+-- all of the text was added to the report's
+abbrev pub Wrote : Seen → Seen → List ℕ → Type 0
+Wrote old new text = Puts old new Report text
 
--- the host failed, and the first bytes of the text were appended to the report
-pub record WrotePart (old new : HostState) (text : List ℕ) : Type 0 where
-  pub part : WritesPart old new Report text
-  pub cause : RoseForAll old new Report
-  pub rest : IsWriting old new Report
+-- a call failed, and a front of the text was added to the report's
+abbrev pub WrotePart : Seen → Seen → List ℕ → Type 0
+WrotePart old new text = PutsFront old new Report text

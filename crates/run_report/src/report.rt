@@ -1,8 +1,8 @@
-// The report is written piece by piece. Each piece takes a buffer of its own, and no memory.
-ghost use Rattle.std.specs.Prelude.{◌≡◌, ◌<◌, length, slice_index, IsTrue, OnOk, OnErr};
+// The report is put into its stream piece by piece. Each piece takes a buffer of its own, and no
+// memory.
+ghost use Rattle.std.specs.Prelude.{◌≡◌, ◌<◌, length, slice_index, OnOk, OnErr};
 ghost use Rattle.conda_base.specs.Lines.{IsLineOf};
-ghost use Rattle.conda_host.specs.State.{IsWriting, RoseForAll, is_created};
-ghost use Rattle.conda_host.specs.Whole.{WritesWhole, WritesPart};
+ghost use Rattle.streams.specs.Seen.{fault_in};
 ghost use Rattle.run_report.specs.View.{IsShown};
 ghost use Rattle.run_report.specs.Texts.{head_text, register_text, registers_text, hart_text, core_text, harts_text, cores_text, changed_text, changes_text, actors_text, slot_text, set_text, cache_text, caches_text, lines_text, note_at_text, notes_text, totals_line_text, traffic_text, state_text, body_text, report_text};
 ghost use Rattle.run_report.specs.Writes.{Wrote, WrotePart};
@@ -12,112 +12,113 @@ use crate::line::{
 };
 use crate::shown::Shown;
 use conda_base::Line;
-use conda_host::{Host, HostFailed, Role, write_all};
+use conda_host::Role;
 use rv32_hart::Regs;
+use streams::{Fault, Streams, put_all};
 
 /// The most lines of a set.
 const MOST_WAYS: u32 = 8;
 
-fn write_text<H: Host>(host: &mut H, text: &[u8]) -> Result<(), HostFailed>
-    requires { IsTrue (is_created (H.state host.old) Role.Report) }
-    ensures ok { OnOk result (Wrote (H.state host.old) (H.state host.new) text.now) }
-    ensures err { OnErr result (WrotePart (H.state host.old) (H.state host.new) text.now) }
+fn write_text<S: Streams>(streams: &mut S, text: &[u8]) -> Result<(), Fault>
+    ensures ok { OnOk result (Wrote (S.seen streams.old) (S.seen streams.new) text.now) }
+    ensures err { OnErr result (WrotePart (S.seen streams.old) (S.seen streams.new) text.now) }
+    ensures leads { S.leads streams.old streams.new (fault_in result) }
 {
-    write_all(host, Role::Report, text)
+    put_all(streams, Role::Report, text)
 }
 
 // A register is shown where it isn't x0 and isn't 0.
 #[tactic(auto, using(crate::proofs::ReportLemmas::wrote_nothing), unfolding(crate::specs::Texts::register_text))]
-fn write_register<H: Host>(host: &mut H, regs: &Regs, number: u8) -> Result<(), HostFailed>
-    requires created { IsTrue (is_created (H.state host.old) Role.Report) }
+fn write_register<S: Streams>(streams: &mut S, regs: &Regs, number: u8) -> Result<(), Fault>
     requires number { number < 32 }
-    ensures ok { OnOk result (Wrote (H.state host.old) (H.state host.new)
+    ensures ok { OnOk result (Wrote (S.seen streams.old) (S.seen streams.new)
         (register_text regs.now.x number)) }
-    ensures err { OnErr result (WrotePart (H.state host.old) (H.state host.new)
+    ensures err { OnErr result (WrotePart (S.seen streams.old) (S.seen streams.new)
         (register_text regs.now.x number)) }
+    ensures leads { S.leads streams.old streams.new (fault_in result) }
 {
     let value = regs.get(number);
     if number == 0 || value == 0 {
         return Ok(());
     }
-    write_text(host, register_line(number, value).as_slice())
+    write_text(streams, register_line(number, value).as_slice())
 }
 
-fn write_registers<H: Host>(host: &mut H, regs: &Regs) -> Result<(), HostFailed>
-    requires { IsTrue (is_created (H.state host.old) Role.Report) }
-    ensures ok { OnOk result (Wrote (H.state host.old) (H.state host.new)
+fn write_registers<S: Streams>(streams: &mut S, regs: &Regs) -> Result<(), Fault>
+    ensures ok { OnOk result (Wrote (S.seen streams.old) (S.seen streams.new)
         (registers_text regs.now.x)) }
-    ensures err { OnErr result (WrotePart (H.state host.old) (H.state host.new)
+    ensures err { OnErr result (WrotePart (S.seen streams.old) (S.seen streams.new)
         (registers_text regs.now.x)) }
+    ensures leads { S.leads streams.old streams.new (fault_in result) }
 {
     for number in 0..32 {
-        write_register(host, regs, number)?;
+        write_register(streams, regs, number)?;
     }
     Ok(())
 }
 
-fn write_hart<H: Host, C: Shown>(host: &mut H, chip: &C, number: u8) -> Result<(), HostFailed>
-    requires created { IsTrue (is_created (H.state host.old) Role.Report) }
+fn write_hart<S: Streams, C: Shown>(streams: &mut S, chip: &C, number: u8) -> Result<(), Fault>
     requires number { number < (C.shown chip.now).harts }
-    ensures ok { OnOk result (Wrote (H.state host.old) (H.state host.new)
+    ensures ok { OnOk result (Wrote (S.seen streams.old) (S.seen streams.new)
         (hart_text (C.shown chip.now) number)) }
-    ensures err { OnErr result (WrotePart (H.state host.old) (H.state host.new)
+    ensures err { OnErr result (WrotePart (S.seen streams.old) (S.seen streams.new)
         (hart_text (C.shown chip.now) number)) }
+    ensures leads { S.leads streams.old streams.new (fault_in result) }
 {
     let (regs, status) = chip.hart(number);
-    write_text(host, hart_line(number, status, regs.pc).as_slice())?;
-    write_registers(host, &regs)
+    write_text(streams, hart_line(number, status, regs.pc).as_slice())?;
+    write_registers(streams, &regs)
 }
 
-fn write_core<H: Host, C: Shown>(host: &mut H, chip: &C, number: u8) -> Result<(), HostFailed>
-    requires created { IsTrue (is_created (H.state host.old) Role.Report) }
+fn write_core<S: Streams, C: Shown>(streams: &mut S, chip: &C, number: u8) -> Result<(), Fault>
     requires number { number < (C.shown chip.now).cores }
-    ensures ok { OnOk result (Wrote (H.state host.old) (H.state host.new)
+    ensures ok { OnOk result (Wrote (S.seen streams.old) (S.seen streams.new)
         (core_text (C.shown chip.now) number)) }
-    ensures err { OnErr result (WrotePart (H.state host.old) (H.state host.new)
+    ensures err { OnErr result (WrotePart (S.seen streams.old) (S.seen streams.new)
         (core_text (C.shown chip.now) number)) }
+    ensures leads { S.leads streams.old streams.new (fault_in result) }
 {
     let (regs, status) = chip.core(number);
-    write_text(host, core_line(number, status, regs.pc).as_slice())?;
-    write_registers(host, &regs)
+    write_text(streams, core_line(number, status, regs.pc).as_slice())?;
+    write_registers(streams, &regs)
 }
 
-fn write_harts<H: Host, C: Shown>(host: &mut H, chip: &C) -> Result<(), HostFailed>
-    requires { IsTrue (is_created (H.state host.old) Role.Report) }
-    ensures ok { OnOk result (Wrote (H.state host.old) (H.state host.new)
+fn write_harts<S: Streams, C: Shown>(streams: &mut S, chip: &C) -> Result<(), Fault>
+    ensures ok { OnOk result (Wrote (S.seen streams.old) (S.seen streams.new)
         (harts_text (C.shown chip.now))) }
-    ensures err { OnErr result (WrotePart (H.state host.old) (H.state host.new)
+    ensures err { OnErr result (WrotePart (S.seen streams.old) (S.seen streams.new)
         (harts_text (C.shown chip.now))) }
+    ensures leads { S.leads streams.old streams.new (fault_in result) }
 {
     for number in 0..chip.harts() {
-        write_hart(host, chip, number)?;
+        write_hart(streams, chip, number)?;
     }
     Ok(())
 }
 
-fn write_cores<H: Host, C: Shown>(host: &mut H, chip: &C) -> Result<(), HostFailed>
-    requires { IsTrue (is_created (H.state host.old) Role.Report) }
-    ensures ok { OnOk result (Wrote (H.state host.old) (H.state host.new)
+fn write_cores<S: Streams, C: Shown>(streams: &mut S, chip: &C) -> Result<(), Fault>
+    ensures ok { OnOk result (Wrote (S.seen streams.old) (S.seen streams.new)
         (cores_text (C.shown chip.now))) }
-    ensures err { OnErr result (WrotePart (H.state host.old) (H.state host.new)
+    ensures err { OnErr result (WrotePart (S.seen streams.old) (S.seen streams.new)
         (cores_text (C.shown chip.now))) }
+    ensures leads { S.leads streams.old streams.new (fault_in result) }
 {
     for number in 0..chip.cores() {
-        write_core(host, chip, number)?;
+        write_core(streams, chip, number)?;
     }
     Ok(())
 }
 
 // A line of memory is shown where its bytes aren't those that were loaded.
-fn write_change<H: Host, C: Shown>(host: &mut H, chip: &C, l: Line) -> Result<(), HostFailed>
-    requires created { IsTrue (is_created (H.state host.old) Role.Report) }
+fn write_change<S: Streams, C: Shown>(streams: &mut S, chip: &C, l: Line) -> Result<(), Fault>
     requires kept { IsShown (C.shown chip.now) }
     requires line { IsLineOf (C.shown chip.now).base (length (C.shown chip.now).memory)
         (C.shown chip.now).line_bytes l.0 }
-    ensures ok { OnOk result (Wrote (H.state host.old) (H.state host.new)
+    ensures ok { OnOk result (Wrote (S.seen streams.old) (S.seen streams.new)
         (changed_text (C.shown chip.now) l.0)) }
-    ensures err { OnErr result (WrotePart (H.state host.old) (H.state host.new)
+    ensures err { OnErr result (WrotePart (S.seen streams.old) (S.seen streams.new)
         (changed_text (C.shown chip.now) l.0)) }
+    ensures leads { S.leads streams.old streams.new (fault_in result) }
 {
     let line_bytes = chip.line_bytes();
     let many = line_bytes as usize;
@@ -129,58 +130,58 @@ fn write_change<H: Host, C: Shown>(host: &mut H, chip: &C, l: Line) -> Result<()
         return Ok(());
     }
     write_text(
-        host,
+        streams,
         changed_line(l.0 * line_bytes, &now[..many]).as_slice(),
     )
 }
 
-fn write_changes<H: Host, C: Shown>(host: &mut H, chip: &C) -> Result<(), HostFailed>
-    requires { IsTrue (is_created (H.state host.old) Role.Report) }
-    ensures ok { OnOk result (Wrote (H.state host.old) (H.state host.new)
+fn write_changes<S: Streams, C: Shown>(streams: &mut S, chip: &C) -> Result<(), Fault>
+    ensures ok { OnOk result (Wrote (S.seen streams.old) (S.seen streams.new)
         (changes_text (C.shown chip.now))) }
-    ensures err { OnErr result (WrotePart (H.state host.old) (H.state host.new)
+    ensures err { OnErr result (WrotePart (S.seen streams.old) (S.seen streams.new)
         (changes_text (C.shown chip.now))) }
+    ensures leads { S.leads streams.old streams.new (fault_in result) }
 {
     let (first, many) = chip.lines();
     for place in 0..many {
-        write_change(host, chip, Line(first.0 + place))?;
+        write_change(streams, chip, Line(first.0 + place))?;
     }
     Ok(())
 }
 
-fn write_actors<H: Host, C: Shown>(host: &mut H, chip: &C) -> Result<(), HostFailed>
-    requires { IsTrue (is_created (H.state host.old) Role.Report) }
-    ensures ok { OnOk result (Wrote (H.state host.old) (H.state host.new)
+fn write_actors<S: Streams, C: Shown>(streams: &mut S, chip: &C) -> Result<(), Fault>
+    ensures ok { OnOk result (Wrote (S.seen streams.old) (S.seen streams.new)
         (actors_text (C.shown chip.now))) }
-    ensures err { OnErr result (WrotePart (H.state host.old) (H.state host.new)
+    ensures err { OnErr result (WrotePart (S.seen streams.old) (S.seen streams.new)
         (actors_text (C.shown chip.now))) }
+    ensures leads { S.leads streams.old streams.new (fault_in result) }
 {
-    write_harts(host, chip)?;
-    write_cores(host, chip)
+    write_harts(streams, chip)?;
+    write_cores(streams, chip)
 }
 
 // A way of a set of a hart's cache, where it has a line.
 #[tactic(auto, unfolding(crate::specs::Texts::slot_text))]
-fn write_slot<H: Host, C: Shown>(
-    host: &mut H,
+fn write_slot<S: Streams, C: Shown>(
+    streams: &mut S,
     chip: &C,
     hart: u8,
     set: u32,
     way: u32,
-) -> Result<(), HostFailed>
-    requires created { IsTrue (is_created (H.state host.old) Role.Report) }
+) -> Result<(), Fault>
     requires kept { IsShown (C.shown chip.now) }
     requires hart { hart < (C.shown chip.now).harts }
     requires set { set < (C.shown chip.now).sets }
-    ensures ok { OnOk result (Wrote (H.state host.old) (H.state host.new)
+    ensures ok { OnOk result (Wrote (S.seen streams.old) (S.seen streams.new)
         (slot_text (C.shown chip.now) hart set way)) }
-    ensures err { OnErr result (WrotePart (H.state host.old) (H.state host.new)
+    ensures err { OnErr result (WrotePart (S.seen streams.old) (S.seen streams.new)
         (slot_text (C.shown chip.now) hart set way)) }
+    ensures leads { S.leads streams.old streams.new (fault_in result) }
 {
     let line_bytes = chip.line_bytes();
     match chip.slot(hart, set, way) {
         Some((line, state)) => write_text(
-            host,
+            streams,
             tag_line(hart, line.0 * line_bytes, state).as_slice(),
         ),
         None => Ok(()),
@@ -188,156 +189,154 @@ fn write_slot<H: Host, C: Shown>(
 }
 
 // The lines of a set, the most recent first.
-fn write_set<H: Host, C: Shown>(
-    host: &mut H,
+fn write_set<S: Streams, C: Shown>(
+    streams: &mut S,
     chip: &C,
     hart: u8,
     set: u32,
-) -> Result<(), HostFailed>
-    requires created { IsTrue (is_created (H.state host.old) Role.Report) }
+) -> Result<(), Fault>
     requires kept { IsShown (C.shown chip.now) }
     requires hart { hart < (C.shown chip.now).harts }
     requires set { set < (C.shown chip.now).sets }
-    ensures ok { OnOk result (Wrote (H.state host.old) (H.state host.new)
+    ensures ok { OnOk result (Wrote (S.seen streams.old) (S.seen streams.new)
         (set_text (C.shown chip.now) hart set)) }
-    ensures err { OnErr result (WrotePart (H.state host.old) (H.state host.new)
+    ensures err { OnErr result (WrotePart (S.seen streams.old) (S.seen streams.new)
         (set_text (C.shown chip.now) hart set)) }
+    ensures leads { S.leads streams.old streams.new (fault_in result) }
 {
     for way in 0..MOST_WAYS {
-        write_slot(host, chip, hart, set, way)?;
+        write_slot(streams, chip, hart, set, way)?;
     }
     Ok(())
 }
 
-fn write_cache<H: Host, C: Shown>(host: &mut H, chip: &C, hart: u8) -> Result<(), HostFailed>
-    requires created { IsTrue (is_created (H.state host.old) Role.Report) }
+fn write_cache<S: Streams, C: Shown>(streams: &mut S, chip: &C, hart: u8) -> Result<(), Fault>
     requires hart { hart < (C.shown chip.now).harts }
-    ensures ok { OnOk result (Wrote (H.state host.old) (H.state host.new)
+    ensures ok { OnOk result (Wrote (S.seen streams.old) (S.seen streams.new)
         (cache_text (C.shown chip.now) hart)) }
-    ensures err { OnErr result (WrotePart (H.state host.old) (H.state host.new)
+    ensures err { OnErr result (WrotePart (S.seen streams.old) (S.seen streams.new)
         (cache_text (C.shown chip.now) hart)) }
+    ensures leads { S.leads streams.old streams.new (fault_in result) }
 {
     for set in 0..chip.sets() {
-        write_set(host, chip, hart, set)?;
+        write_set(streams, chip, hart, set)?;
     }
     Ok(())
 }
 
-fn write_caches<H: Host, C: Shown>(host: &mut H, chip: &C) -> Result<(), HostFailed>
-    requires { IsTrue (is_created (H.state host.old) Role.Report) }
-    ensures ok { OnOk result (Wrote (H.state host.old) (H.state host.new)
+fn write_caches<S: Streams, C: Shown>(streams: &mut S, chip: &C) -> Result<(), Fault>
+    ensures ok { OnOk result (Wrote (S.seen streams.old) (S.seen streams.new)
         (caches_text (C.shown chip.now))) }
-    ensures err { OnErr result (WrotePart (H.state host.old) (H.state host.new)
+    ensures err { OnErr result (WrotePart (S.seen streams.old) (S.seen streams.new)
         (caches_text (C.shown chip.now))) }
+    ensures leads { S.leads streams.old streams.new (fault_in result) }
 {
     for hart in 0..chip.harts() {
-        write_cache(host, chip, hart)?;
+        write_cache(streams, chip, hart)?;
     }
     Ok(())
 }
 
-fn write_lines<H: Host, C: Shown>(host: &mut H, chip: &C) -> Result<(), HostFailed>
-    requires { IsTrue (is_created (H.state host.old) Role.Report) }
-    ensures ok { OnOk result (Wrote (H.state host.old) (H.state host.new)
+fn write_lines<S: Streams, C: Shown>(streams: &mut S, chip: &C) -> Result<(), Fault>
+    ensures ok { OnOk result (Wrote (S.seen streams.old) (S.seen streams.new)
         (lines_text (C.shown chip.now))) }
-    ensures err { OnErr result (WrotePart (H.state host.old) (H.state host.new)
+    ensures err { OnErr result (WrotePart (S.seen streams.old) (S.seen streams.new)
         (lines_text (C.shown chip.now))) }
+    ensures leads { S.leads streams.old streams.new (fault_in result) }
 {
-    write_caches(host, chip)?;
-    write_changes(host, chip)
+    write_caches(streams, chip)?;
+    write_changes(streams, chip)
 }
 
 // A kept note, by its place.
 #[tactic(auto, unfolding(crate::specs::Texts::note_at_text))]
-fn write_note<H: Host, C: Shown>(host: &mut H, chip: &C, place: usize) -> Result<(), HostFailed>
-    requires { IsTrue (is_created (H.state host.old) Role.Report) }
-    ensures ok { OnOk result (Wrote (H.state host.old) (H.state host.new)
+fn write_note<S: Streams, C: Shown>(streams: &mut S, chip: &C, place: usize) -> Result<(), Fault>
+    ensures ok { OnOk result (Wrote (S.seen streams.old) (S.seen streams.new)
         (note_at_text (C.shown chip.now) place)) }
-    ensures err { OnErr result (WrotePart (H.state host.old) (H.state host.new)
+    ensures err { OnErr result (WrotePart (S.seen streams.old) (S.seen streams.new)
         (note_at_text (C.shown chip.now) place)) }
+    ensures leads { S.leads streams.old streams.new (fault_in result) }
 {
     let line_bytes = chip.line_bytes();
     match chip.traffic().last(place) {
         Some(note) => write_text(
-            host,
+            streams,
             note_line(note.kind, note.who, note.line.0 * line_bytes).as_slice(),
         ),
         None => Ok(()),
     }
 }
 
-fn write_notes<H: Host, C: Shown>(host: &mut H, chip: &C) -> Result<(), HostFailed>
-    requires { IsTrue (is_created (H.state host.old) Role.Report) }
-    ensures ok { OnOk result (Wrote (H.state host.old) (H.state host.new)
+fn write_notes<S: Streams, C: Shown>(streams: &mut S, chip: &C) -> Result<(), Fault>
+    ensures ok { OnOk result (Wrote (S.seen streams.old) (S.seen streams.new)
         (notes_text (C.shown chip.now))) }
-    ensures err { OnErr result (WrotePart (H.state host.old) (H.state host.new)
+    ensures err { OnErr result (WrotePart (S.seen streams.old) (S.seen streams.new)
         (notes_text (C.shown chip.now))) }
+    ensures leads { S.leads streams.old streams.new (fault_in result) }
 {
     for place in 0..chip.traffic().kept() {
-        write_note(host, chip, place)?;
+        write_note(streams, chip, place)?;
     }
     Ok(())
 }
 
-fn write_totals<H: Host, C: Shown>(host: &mut H, chip: &C) -> Result<(), HostFailed>
-    requires { IsTrue (is_created (H.state host.old) Role.Report) }
-    ensures ok { OnOk result (Wrote (H.state host.old) (H.state host.new)
+fn write_totals<S: Streams, C: Shown>(streams: &mut S, chip: &C) -> Result<(), Fault>
+    ensures ok { OnOk result (Wrote (S.seen streams.old) (S.seen streams.new)
         (totals_line_text (C.shown chip.now).trace)) }
-    ensures err { OnErr result (WrotePart (H.state host.old) (H.state host.new)
+    ensures err { OnErr result (WrotePart (S.seen streams.old) (S.seen streams.new)
         (totals_line_text (C.shown chip.now).trace)) }
+    ensures leads { S.leads streams.old streams.new (fault_in result) }
 {
-    write_text(host, totals_line(chip.traffic()).as_slice())
+    write_text(streams, totals_line(chip.traffic()).as_slice())
 }
 
-fn write_traffic<H: Host, C: Shown>(host: &mut H, chip: &C) -> Result<(), HostFailed>
-    requires { IsTrue (is_created (H.state host.old) Role.Report) }
-    ensures ok { OnOk result (Wrote (H.state host.old) (H.state host.new)
+fn write_traffic<S: Streams, C: Shown>(streams: &mut S, chip: &C) -> Result<(), Fault>
+    ensures ok { OnOk result (Wrote (S.seen streams.old) (S.seen streams.new)
         (traffic_text (C.shown chip.now))) }
-    ensures err { OnErr result (WrotePart (H.state host.old) (H.state host.new)
+    ensures err { OnErr result (WrotePart (S.seen streams.old) (S.seen streams.new)
         (traffic_text (C.shown chip.now))) }
+    ensures leads { S.leads streams.old streams.new (fault_in result) }
 {
-    write_totals(host, chip)?;
-    write_notes(host, chip)
+    write_totals(streams, chip)?;
+    write_notes(streams, chip)
 }
 
-fn write_body<H: Host, C: Shown>(host: &mut H, chip: &C) -> Result<(), HostFailed>
-    requires { IsTrue (is_created (H.state host.old) Role.Report) }
-    ensures ok { OnOk result (Wrote (H.state host.old) (H.state host.new)
+fn write_body<S: Streams, C: Shown>(streams: &mut S, chip: &C) -> Result<(), Fault>
+    ensures ok { OnOk result (Wrote (S.seen streams.old) (S.seen streams.new)
         (body_text (C.shown chip.now))) }
-    ensures err { OnErr result (WrotePart (H.state host.old) (H.state host.new)
+    ensures err { OnErr result (WrotePart (S.seen streams.old) (S.seen streams.new)
         (body_text (C.shown chip.now))) }
+    ensures leads { S.leads streams.old streams.new (fault_in result) }
 {
-    write_state(host, chip)?;
-    write_traffic(host, chip)
+    write_state(streams, chip)?;
+    write_traffic(streams, chip)
 }
 
-fn write_state<H: Host, C: Shown>(host: &mut H, chip: &C) -> Result<(), HostFailed>
-    requires { IsTrue (is_created (H.state host.old) Role.Report) }
-    ensures ok { OnOk result (Wrote (H.state host.old) (H.state host.new)
+fn write_state<S: Streams, C: Shown>(streams: &mut S, chip: &C) -> Result<(), Fault>
+    ensures ok { OnOk result (Wrote (S.seen streams.old) (S.seen streams.new)
         (state_text (C.shown chip.now))) }
-    ensures err { OnErr result (WrotePart (H.state host.old) (H.state host.new)
+    ensures err { OnErr result (WrotePart (S.seen streams.old) (S.seen streams.new)
         (state_text (C.shown chip.now))) }
+    ensures leads { S.leads streams.old streams.new (fault_in result) }
 {
-    write_actors(host, chip)?;
-    write_lines(host, chip)
+    write_actors(streams, chip)?;
+    write_lines(streams, chip)
 }
 
-/// Appends the report of a run to the created role of the report: `events` is the number of events run, and `out`
-/// the number of bytes of output. It takes no memory. After an `Err` the first bytes of the report were appended.
-pub fn write<H: Host, C: Shown>(
-    host: &mut H,
+/// Adds the report of a run to the report's text: `events` is the number of events run, and `out` the
+/// number of bytes of output. It takes no memory. After a fault a front of the report was added.
+pub fn write<S: Streams, C: Shown>(
+    streams: &mut S,
     chip: &C,
     events: u64,
     out: u64,
-) -> Result<(), HostFailed>
-    requires { IsTrue (is_created (H.state host.old) Role.Report) }
-    ensures ok { OnOk result (WritesWhole (H.state host.old) (H.state host.new) Role.Report
+) -> Result<(), Fault>
+    ensures ok { OnOk result (Wrote (S.seen streams.old) (S.seen streams.new)
         (report_text (C.shown chip.now) events out)) }
-    ensures err { OnErr result (WritesPart (H.state host.old) (H.state host.new) Role.Report
+    ensures err { OnErr result (WrotePart (S.seen streams.old) (S.seen streams.new)
         (report_text (C.shown chip.now) events out)) }
-    ensures cause { OnErr result (RoseForAll (H.state host.old) (H.state host.new) Role.Report) }
-    ensures rest { IsWriting (H.state host.old) (H.state host.new) Role.Report }
+    ensures leads { S.leads streams.old streams.new (fault_in result) }
 {
-    write_text(host, head_lines(events, out).as_slice())?;
-    write_body(host, chip)
+    write_text(streams, head_lines(events, out).as_slice())?;
+    write_body(streams, chip)
 }

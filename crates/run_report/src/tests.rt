@@ -1,5 +1,8 @@
 // Worked examples: a chip that stands still, and the texts of single lines.
-ghost use Rattle.std.specs.Prelude.{All};
+ghost use Rattle.std.specs.Prelude.{◌≡◌, Some, None, All, OnOk};
+ghost use Rattle.conda_host.specs.declared.outside.Role.TheVariants as role;
+ghost use Rattle.streams.specs.Sink.{SinkView};
+ghost use Rattle.streams.specs.Streaming.{AreMade};
 ghost use Rattle.run_report.specs.View.{IsAddressed};
 
 use crate::line::{changed_line, core_line, hart_line, note_line, tag_line};
@@ -10,6 +13,7 @@ use offload_calls::{CoreStatus, HartStatus};
 use rv32_hart::{Regs, Trap};
 use std::alloc::{AllocError, Global};
 use std::test::Fail;
+use streams::{Fault, MOST_PUT, Sink, SinkFiles, Sinks};
 use traffic_trace::{Kind, Note, Traffic};
 
 // A hart and a core that have not run, one line of memory, of which two bytes changed, in the hart's cache, and its fill.
@@ -115,12 +119,39 @@ fn host(alloc: Global) -> Result<MemoryHost, AllocError> {
     MemoryHost::new(alloc, Vec::new(alloc), outputs, 400, 7, Vec::new(alloc))
 }
 
+fn create<H: Host>(host: &mut H) -> Result<(), Fault>
+    ensures { OnOk result ((sink : SinkView) → sink.role ≡ role.Report
+        → AreMade (H.state host.new) (record { first = Some sink; second = None })) }
+{
+    match host.create(Role::Report, "report") {
+        Ok(()) => Ok(()),
+        Err(_) => Err(Fault::Write(Role::Report)),
+    }
+}
+
+fn write_over<H: Host>(files: &mut SinkFiles<'_, H>, chip: &Still) -> Result<(), Fault> {
+    write(files, chip, 0, 0)?;
+    files.finish()
+}
+
+// Writes the report of no event through a sink.
+fn write_file<H: Host>(host: &mut H, sink: Sink, chip: &Still) -> Result<(), Fault>
+    requires { sink.role ≡ role.Report }
+{
+    create(host)?;
+    let mut sinks = Sinks {
+        first: Some(sink),
+        second: None,
+    };
+    write_over(&mut SinkFiles::new(host, &mut sinks), chip)
+}
+
 #[test]
 fn a_chip_that_stands_still(rt: HostRuntime) -> Result<(), Fail> {
     let alloc = rt.alloc();
     let mut host = host(alloc)?;
-    host.create(Role::Report, "report").map_err(|_| "create")?;
-    write(&mut host, &at_the_start(alloc)?, 0, 0).map_err(|_| "write")?;
+    let sink = Sink::new(alloc, Role::Report, MOST_PUT)?;
+    assert_eq!(rt; write_file(&mut host, sink, &at_the_start(alloc)?), Ok(()));
     let head =
         "events 0\noutput 0\nhart 0 run pc 00010000\nx11 00000001\ncore 0 idle pc 00000000\ntag 0 00000040 M\n";
     let line = "line 00000040 4142000000000000000000000000000000000000000000000000000000000000\n";

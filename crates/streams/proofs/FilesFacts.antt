@@ -12,7 +12,7 @@ use Rattle.streams.specs.declared.sinks.Sinks.{Sinks}
 use Rattle.streams.specs.Seen.{Seen, ShowsText, ShowsFront, Takes, Puts, fault_in}
 use Rattle.streams.specs.Holding.{SinkHolds, SinkHoldsFront}
 use Rattle.streams.specs.Sink.{SinkView, IsMade, text_in}
-use Rattle.streams.specs.Streaming.{is_of, has_sink, text_if, text_at, told_text, seen_over, AreMade, AreOpen, AreWhole, Gives, IsLed, HasFaultCause, added_to}
+use Rattle.streams.specs.Streaming.{is_of, has_sink, text_if, text_at, told_text, seen_over, seen_alone, AreMade, AreOpen, AreWhole, Gives, IsLed, HasFaultCause, added_to}
 use Rattle.streams.proofs.StreamFacts.{role_tells, not_role, self_test, streaming_of_writing}
 
 -- what streams over a host show, from its parts
@@ -135,18 +135,45 @@ gives_seen {s = s} {t = t} {a = a} {b = b} from p other =
     ∙ ap (λ x. shown s.tells (s.role from).left x (told_text t b)) p.same
     ∙ ap (λ x. shown s.tells (s.role from).left (has_sink a) x) (fun_ext (λ r. text_same r p refl))
 
+-- what bytes that are given to one role do to the texts
+text_given : {s t : HostState} {a b : Sinks} (role : Role) (bytes : List ℕ) → Gives s t a b (added_to role bytes) → IsTrue s.tells → IsTrue (has_sink a role) → told_text t b role ≡ told_text s a role ++ bytes
+text_given {s = s} {t = t} {a = a} {b = b} role bytes p told is =
+    cond-true t.tells (text_at t b role) [] (p.rest.later.tells ∙ told) ∙ p.text told role is
+    ∙ ap (λ x. text_at s a role ++ x) (cond-true (index_of role == index_of role) bytes [] (self_test role))
+    ∙ ap (λ x. x ++ bytes) (sym (cond-true s.tells (text_at s a role) [] told))
+
+others_given : {s t : HostState} {a b : Sinks} (role : Role) (bytes : List ℕ) → Gives s t a b (added_to role bytes) → (r : Role) → r ≢ role → told_text t b r ≡ told_text s a r
+others_given role bytes p r d = text_same r p (cond-false (index_of role == index_of r) bytes [] (not_role (λ e. d (sym e))))
+
 pub gives_puts : {s t : HostState} {a b : Sinks} (from role : Role) (bytes : List ℕ) → Gives s t a b (added_to role bytes) → has_sink a from ≡ false → Puts (seen_over s from a) (seen_over t from b) role bytes
 gives_puts {s = s} {t = t} {a = a} {b = b} from role bytes p other = record {
-  text = λ told is.
-      cond-true t.tells (text_at t b role) [] (p.rest.later.tells ∙ told) ∙ p.text told role is
-      ∙ ap (λ x. text_at s a role ++ x) (cond-true (index_of role == index_of role) bytes [] (self_test role))
-      ∙ ap (λ x. x ++ bytes) (sym (cond-true s.tells (text_at s a role) [] told));
-  others = λ r d. text_same r p (cond-false (index_of role == index_of r) bytes [] (not_role (λ e. d (sym e))));
+  text = text_given role bytes p;
+  others = others_given role bytes p;
   rest =
       ap (λ x. shown x (t.role from).left (has_sink b) (told_text t b)) p.rest.later.tells
       ∙ ap (λ x. shown s.tells x.left (has_sink b) (told_text t b)) (p.rest.roles from other)
       ∙ ap (λ x. shown s.tells (s.role from).left x (told_text t b)) p.same;
 }
+
+-- the same of sinks beside which nothing is read
+pub gives_seen_alone : {s t : HostState} {a b : Sinks} → Gives s t a b (λ r. []) → seen_alone t b ≡ seen_alone s a
+gives_seen_alone {s = s} {t = t} {a = a} {b = b} p =
+    ap (λ x. shown x [] (has_sink b) (told_text t b)) p.rest.later.tells
+    ∙ ap (λ x. shown s.tells [] x (told_text t b)) p.same
+    ∙ ap (λ x. shown s.tells [] (has_sink a) x) (fun_ext (λ r. text_same r p refl))
+
+pub gives_puts_alone : {s t : HostState} {a b : Sinks} (role : Role) (bytes : List ℕ) → Gives s t a b (added_to role bytes) → Puts (seen_alone s a) (seen_alone t b) role bytes
+gives_puts_alone {s = s} {t = t} {a = a} {b = b} role bytes p = record {
+  text = text_given role bytes p;
+  others = others_given role bytes p;
+  rest =
+      ap (λ x. shown x [] (has_sink b) (told_text t b)) p.rest.later.tells
+      ∙ ap (λ x. shown s.tells [] x (told_text t b)) p.same;
+}
+
+pub gives_made : (s : HostState) {t : HostState} (a : Sinks) {b : Sinks} (f g : Role → List ℕ) (result : Result (Unit {0}) Fault) → OnOk result (Gives s t a b f) → OnErr result (Gives s t a b g) → AreMade t b
+gives_made s a f g (Ok v) ok err = ok.made
+gives_made s a f g (Err e) ok err = err.made
 
 pub gives_led : {s t : HostState} {a b : Sinks} {f : Role → List ℕ} (from : Role) (fault : Option Fault) → Gives s t a b f → HasFaultCause from (has_sink a) s t fault → IsLed from a b s t fault
 gives_led from fault p cause = record { same = p.same; streaming = streaming_of_writing from p.rest; cause = cause }

@@ -39,6 +39,12 @@ pub record Puts (old new : Seen) (role : Role) (bytes : List ℕ) : Type 0 where
   pub others : (r : Role) → r ≢ role → new.text r ≡ old.text r
   pub rest : new ≡ record old { text = new.text }
 
+-- the same, but a call failed: a front of the bytes was added
+pub record PutsFront (old new : Seen) (role : Role) (bytes : List ℕ) : Type 0 where
+  pub front : List ℕ
+  pub is_front : IsFrontOf front bytes
+  pub puts : Puts old new role front
+
 -- the fault of a call, if it failed
 abbrev pub fault_in : {A : Type 0} → Result A Fault → Option Fault
 fault_in (Ok value) = None

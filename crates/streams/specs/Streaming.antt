@@ -42,6 +42,15 @@ seen_over s source sinks = record {
   text = told_text s sinks;
 }
 
+-- sinks beside which nothing is read: nothing is left of a source
+abbrev pub seen_alone : HostState → Sinks → Seen
+seen_alone s sinks = record {
+  tells = s.tells;
+  left = [];
+  sinks = has_sink sinks;
+  text = told_text s sinks;
+}
+
 -- ---- what is kept between two calls
 
 -- two sinks have two roles and two files
@@ -119,3 +128,7 @@ pub record IsLed (source : Role) (before after : Sinks) (old new : HostState)
   pub same : has_sink after ≡ has_sink before
   pub streaming : IsStreaming source (has_sink before) old new
   pub cause : HasFaultCause source (has_sink before) old new fault
+
+-- calls that only put: they are calls of streams whichever role these would read
+abbrev pub IsLedAlone : Sinks → Sinks → HostState → HostState → Option Fault → Type 0
+IsLedAlone before after old new fault = (source : Role) → IsLed source before after old new fault

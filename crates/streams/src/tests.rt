@@ -9,7 +9,7 @@ use conda_host::{MemoryHost, Role};
 use memory::MemorySource;
 use std::alloc::{AllocError, Global};
 use std::test::Fail;
-use uses::{copy_all, copy_file, read_front};
+use uses::{copy_all, copy_file, read_front, write_file};
 
 // A text that is longer than a sink's buffer.
 const LONG: &[u8] = b"h0 1\nh0 22\nn0 333\nh1 4444\nh2 55555\nh3 666666\nh4 7\nh5 8\nh6 99\nh7 1\n";
@@ -50,6 +50,21 @@ fn a_full_file_is_a_fault_of_its_role(rt: HostRuntime) -> Result<(), Fail> {
     let sink = Sink::new(alloc, Role::Program, MOST_PUT)?;
     let copied = copy_file(&mut host, sink, "short", "out");
     assert_eq!(rt; copied, Err(Fault::Write(Role::Program)));
+    assert_eq!(rt; host.file("out"), Some(b"h0 ".as_slice()));
+    Ok(())
+}
+
+#[test]
+fn a_text_goes_through_a_sink_alone(rt: HostRuntime) -> Result<(), Fail> {
+    let alloc = rt.alloc();
+    let mut host = host_over(alloc, 100, 7, Vec::new(alloc))?;
+    let sink = Sink::new(alloc, Role::Program, MOST_PUT)?;
+    assert_eq!(rt; write_file(&mut host, sink, LONG, "out"), Ok(()));
+    assert_eq!(rt; host.file("out"), Some(LONG));
+    let sink = Sink::new(alloc, Role::Program, MOST_PUT)?;
+    let mut host = host_over(alloc, 3, 7, Vec::new(alloc))?;
+    let written = write_file(&mut host, sink, LONG, "out");
+    assert_eq!(rt; written, Err(Fault::Write(Role::Program)));
     assert_eq!(rt; host.file("out"), Some(b"h0 ".as_slice()));
     Ok(())
 }

@@ -1,11 +1,12 @@
-// What commands do with streams: a source is read on its own, or goes through to a sink.
+// What commands do with streams: a source is read on its own, or goes through to a sink; a text is
+// put into the only file.
 ghost use Rattle.std.specs.Prelude.{◌≡◌, ◌++◌, ℕ, List, IsTrue, IfOk, OnOk, Some, None};
 ghost use Rattle.conda_host.specs.declared.outside.Role.TheVariants as role;
 ghost use Rattle.streams.specs.Seen.{IsLeft, ShowsText, fault_in};
-ghost use Rattle.streams.specs.Streaming.{AreOpen};
+ghost use Rattle.streams.specs.Streaming.{AreMade, AreOpen};
 ghost use Rattle.streams.specs.Sink.{SinkView};
 
-use crate::{Fault, Files, MOST_PUT, Sink, Sinks, Streams};
+use crate::{Fault, Files, MOST_PUT, Sink, SinkFiles, Sinks, Streams, put_all};
 use conda_host::{Host, Role};
 
 fn open<H: Host>(host: &mut H, role: Role, name: &str) -> Result<(), Fault>
@@ -87,4 +88,33 @@ pub fn copy_file<H: Host>(host: &mut H, sink: Sink, from: &str, to: &str) -> Res
     };
     let mut files = Files::new(host, Role::Source, &mut sinks);
     copy_over(&mut files)
+}
+
+// Creates a file for a text.
+fn create<H: Host>(host: &mut H, to: &str) -> Result<(), Fault>
+    ensures { OnOk result ((sink : SinkView) → sink.role ≡ role.Program
+        → AreMade (H.state host.new) (record { first = Some sink; second = None })) }
+{
+    match host.create(Role::Program, to) {
+        Ok(()) => Ok(()),
+        Err(_) => Err(Fault::Write(Role::Program)),
+    }
+}
+
+fn write_over<H: Host>(files: &mut SinkFiles<'_, H>, text: &[u8]) -> Result<(), Fault> {
+    put_all(files, Role::Program, text)?;
+    files.finish()
+}
+
+/// Writes a text through a sink of the role Program, beside which nothing is read.
+pub fn write_file<H: Host>(host: &mut H, sink: Sink, text: &[u8], to: &str) -> Result<(), Fault>
+    requires { sink.role ≡ role.Program }
+{
+    create(host, to)?;
+    let mut sinks = Sinks {
+        first: Some(sink),
+        second: None,
+    };
+    let mut files = SinkFiles::new(host, &mut sinks);
+    write_over(&mut files, text)
 }

@@ -8,8 +8,8 @@ returns-in_err-write_harts-clause-err g c = one_err c.from_residual.result (core
 
 pub returns-clause-ok : goal.returns-clause-ok
 returns-clause-ok g c =
-    two_ok c.write_cores.result (g.H.Host.state c.write_cores.new.host) (cores_text (g.C.Shown.shown c.args.chip.now)) refl c.in_ok-write_harts.ensures.ok c.write_cores.ensures.ok
+    two_ok c.write_cores.result (g.S.Streams.seen c.write_cores.new.streams) (cores_text (g.C.Shown.shown c.args.chip.now)) refl c.in_ok-write_harts.ensures.ok c.write_cores.ensures.ok
 
 pub returns-clause-err : goal.returns-clause-err
 returns-clause-err g c =
-    two_err c.write_cores.result (g.H.Host.state c.write_cores.new.host) (cores_text (g.C.Shown.shown c.args.chip.now)) refl c.in_ok-write_harts.ensures.ok c.write_cores.ensures.err
+    two_err c.write_cores.result (g.S.Streams.seen c.write_cores.new.streams) (cores_text (g.C.Shown.shown c.args.chip.now)) refl c.in_ok-write_harts.ensures.ok c.write_cores.ensures.err

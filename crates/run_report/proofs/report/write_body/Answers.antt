@@ -8,8 +8,8 @@ returns-in_err-write_state-clause-err g c = one_err c.from_residual.result (traf
 
 pub returns-clause-ok : goal.returns-clause-ok
 returns-clause-ok g c =
-    two_ok c.write_traffic.result (g.H.Host.state c.write_traffic.new.host) (traffic_text (g.C.Shown.shown c.args.chip.now)) refl c.in_ok-write_state.ensures.ok c.write_traffic.ensures.ok
+    two_ok c.write_traffic.result (g.S.Streams.seen c.write_traffic.new.streams) (traffic_text (g.C.Shown.shown c.args.chip.now)) refl c.in_ok-write_state.ensures.ok c.write_traffic.ensures.ok
 
 pub returns-clause-err : goal.returns-clause-err
 returns-clause-err g c =
-    two_err c.write_traffic.result (g.H.Host.state c.write_traffic.new.host) (traffic_text (g.C.Shown.shown c.args.chip.now)) refl c.in_ok-write_state.ensures.ok c.write_traffic.ensures.err
+    two_err c.write_traffic.result (g.S.Streams.seen c.write_traffic.new.streams) (traffic_text (g.C.Shown.shown c.args.chip.now)) refl c.in_ok-write_state.ensures.ok c.write_traffic.ensures.err

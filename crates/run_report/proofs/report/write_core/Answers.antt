@@ -9,8 +9,8 @@ returns-in_err-write_text-clause-err g c =
 
 pub returns-clause-ok : goal.returns-clause-ok
 returns-clause-ok g c =
-    two_ok c.write_registers.result (g.H.Host.state c.write_registers.new.host) (registers_text c.core-status.result.0.x) (core_pieces (g.C.Shown.shown c.args.chip.now) c.args.number _ _ _ c.core-status.ensures.regs c.core-status.ensures.status (c.as_slice.ensures.value ∙ c.core_line.ensures)) c.in_ok-write_text.ensures.ok c.write_registers.ensures.ok
+    two_ok c.write_registers.result (g.S.Streams.seen c.write_registers.new.streams) (registers_text c.core-status.result.0.x) (core_pieces (g.C.Shown.shown c.args.chip.now) c.args.number _ _ _ c.core-status.ensures.regs c.core-status.ensures.status (c.as_slice.ensures.value ∙ c.core_line.ensures)) c.in_ok-write_text.ensures.ok c.write_registers.ensures.ok
 
 pub returns-clause-err : goal.returns-clause-err
 returns-clause-err g c =
-    two_err c.write_registers.result (g.H.Host.state c.write_registers.new.host) (registers_text c.core-status.result.0.x) (core_pieces (g.C.Shown.shown c.args.chip.now) c.args.number _ _ _ c.core-status.ensures.regs c.core-status.ensures.status (c.as_slice.ensures.value ∙ c.core_line.ensures)) c.in_ok-write_text.ensures.ok c.write_registers.ensures.err
+    two_err c.write_registers.result (g.S.Streams.seen c.write_registers.new.streams) (registers_text c.core-status.result.0.x) (core_pieces (g.C.Shown.shown c.args.chip.now) c.args.number _ _ _ c.core-status.ensures.regs c.core-status.ensures.status (c.as_slice.ensures.value ∙ c.core_line.ensures)) c.in_ok-write_text.ensures.ok c.write_registers.ensures.err

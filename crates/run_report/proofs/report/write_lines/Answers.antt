@@ -8,8 +8,8 @@ returns-in_err-write_caches-clause-err g c = one_err c.from_residual.result (cha
 
 pub returns-clause-ok : goal.returns-clause-ok
 returns-clause-ok g c =
-    two_ok c.write_changes.result (g.H.Host.state c.write_changes.new.host) (changes_text (g.C.Shown.shown c.args.chip.now)) refl c.in_ok-write_caches.ensures.ok c.write_changes.ensures.ok
+    two_ok c.write_changes.result (g.S.Streams.seen c.write_changes.new.streams) (changes_text (g.C.Shown.shown c.args.chip.now)) refl c.in_ok-write_caches.ensures.ok c.write_changes.ensures.ok
 
 pub returns-clause-err : goal.returns-clause-err
 returns-clause-err g c =
-    two_err c.write_changes.result (g.H.Host.state c.write_changes.new.host) (changes_text (g.C.Shown.shown c.args.chip.now)) refl c.in_ok-write_caches.ensures.ok c.write_changes.ensures.err
+    two_err c.write_changes.result (g.S.Streams.seen c.write_changes.new.streams) (changes_text (g.C.Shown.shown c.args.chip.now)) refl c.in_ok-write_caches.ensures.ok c.write_changes.ensures.err

@@ -8,8 +8,8 @@ returns-in_err-write_actors-clause-err g c = one_err c.from_residual.result (lin
 
 pub returns-clause-ok : goal.returns-clause-ok
 returns-clause-ok g c =
-    two_ok c.write_lines.result (g.H.Host.state c.write_lines.new.host) (lines_text (g.C.Shown.shown c.args.chip.now)) refl c.in_ok-write_actors.ensures.ok c.write_lines.ensures.ok
+    two_ok c.write_lines.result (g.S.Streams.seen c.write_lines.new.streams) (lines_text (g.C.Shown.shown c.args.chip.now)) refl c.in_ok-write_actors.ensures.ok c.write_lines.ensures.ok
 
 pub returns-clause-err : goal.returns-clause-err
 returns-clause-err g c =
-    two_err c.write_lines.result (g.H.Host.state c.write_lines.new.host) (lines_text (g.C.Shown.shown c.args.chip.now)) refl c.in_ok-write_actors.ensures.ok c.write_lines.ensures.err
+    two_err c.write_lines.result (g.S.Streams.seen c.write_lines.new.streams) (lines_text (g.C.Shown.shown c.args.chip.now)) refl c.in_ok-write_actors.ensures.ok c.write_lines.ensures.err

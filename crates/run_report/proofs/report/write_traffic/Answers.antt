@@ -8,8 +8,8 @@ returns-in_err-write_totals-clause-err g c = one_err c.from_residual.result (not
 
 pub returns-clause-ok : goal.returns-clause-ok
 returns-clause-ok g c =
-    two_ok c.write_notes.result (g.H.Host.state c.write_notes.new.host) (notes_text (g.C.Shown.shown c.args.chip.now)) refl c.in_ok-write_totals.ensures.ok c.write_notes.ensures.ok
+    two_ok c.write_notes.result (g.S.Streams.seen c.write_notes.new.streams) (notes_text (g.C.Shown.shown c.args.chip.now)) refl c.in_ok-write_totals.ensures.ok c.write_notes.ensures.ok
 
 pub returns-clause-err : goal.returns-clause-err
 returns-clause-err g c =
-    two_err c.write_notes.result (g.H.Host.state c.write_notes.new.host) (notes_text (g.C.Shown.shown c.args.chip.now)) refl c.in_ok-write_totals.ensures.ok c.write_notes.ensures.err
+    two_err c.write_notes.result (g.S.Streams.seen c.write_notes.new.streams) (notes_text (g.C.Shown.shown c.args.chip.now)) refl c.in_ok-write_totals.ensures.ok c.write_notes.ensures.err
