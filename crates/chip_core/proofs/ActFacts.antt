@@ -28,7 +28,7 @@ use Rattle.chip_laws.specs.Rules.{World, Seat, Opening, try_of, opening_end, is_
 use Rattle.chip_laws.specs.Worlds.{one_more, seat_back, took}
 use Rattle.chip_core.specs.declared.stage.Stage.{Stage}
 use Rattle.chip_core.specs.declared.cores.Cores.{Cores}
-use Rattle.chip_core.specs.declared.event.Event.{Event}
+use Rattle.chip_core.specs.Seats.{Turned}
 use Rattle.chip_core.specs.Fits.{is_locked_core}
 use Rattle.chip_core.specs.Seats.{around, is_spent, lock_backed, MakesAct, RollsBack, HasEnded}
 use Rattle.chip_core.specs.Shows.{HoldsAt, HoldsOpen, IsImageOf, HoldsOpening, ShowsMemory, ShowsCores, ShowsLock}
@@ -86,7 +86,7 @@ act-seat d w j = record {
   others = λ k ne. cond-false (eqb k j) _ _ (ne_eqb k j ne);
 }
 
-pub act-turn : (d : Design) (w : World) (j : ℕ) (code : CodeView) (b new : BackingView) (log later : Trace) (cores left : Cores) (old : OpenView) (held : Stage) (event : Event)
+pub act-turn : (d : Design) (w : World) (j : ℕ) (code : CodeView) (b new : BackingView) (log later : Trace) (cores left : Cores) (old : OpenView) (held : Stage) (event : Turned)
     → MayTurn d w j code b log cores → HoldsOpen d j (w.flat.cores j).regs (w.seats j).opening old
     → MakesAct code j old (around b cores.lock log) (around new left.lock later) held event → LeavesCores j held cores left
     → CoreTurns d w j code new later left event
@@ -114,7 +114,7 @@ act-turn d w j code b new log later cores left old held event may holds act leav
               (own-lock d w (Spec j) j (record (w.seats j) { opening = one_more d w (w.seats j).opening }) cores.lock (act-seat d w j) refl
               (ap (λ x. is_locked (one_more d w x)) has.seat ∙ sym (ap is_locked has.seat)) may.shows.lock);
         })
-        (no-puts d w (Spec j) event.out.items refl act.puts)
+        (no-puts d w (Spec j) event.puts refl act.puts)
       where
         is : HoldsOpening d j (w.flat.cores j).regs o old
         is = has.is
@@ -256,7 +256,7 @@ back-lock d w j n cause lock free range shows = record {
         (free ∙ sym (ap (λ (x : Seat). is_locked x.opening) s.own))
     at k (inr ne) = shows.locked k ∙ sym (ap (λ (x : Seat). is_locked x.opening) (s.others k ne))
 
-pub back-turn : (d : Design) (w : World) (j : ℕ) (code : CodeView) (b new : BackingView) (log later : Trace) (cores left : Cores) (o : Opening) (c : EndedView) (held : Stage) (event : Event)
+pub back-turn : (d : Design) (w : World) (j : ℕ) (code : CodeView) (b new : BackingView) (log later : Trace) (cores left : Cores) (o : Opening) (c : EndedView) (held : Stage) (event : Turned)
     → BacksAreEntries → MayTurn d w j code b log cores → HasEnd d w j o c → is_conflict d o ≡ true
     → RollsBack j c (around b cores.lock log) (around new left.lock later) held event → LeavesCores j held cores left
     → CoreTurns d w j code new later left event
@@ -274,7 +274,7 @@ back-turn d w j code b new log later cores left o c held event law may ended mee
       lock = subst (λ x. ShowsLock d x (took d w (Back j o.acts c.cause))) (sym (back.lock ∙ counts))
           (back-lock d w j o.acts c.cause cores.lock free may.range may.shows.lock);
     })
-    (no-puts d w (Back j o.acts c.cause) event.out.items refl back.puts)
+    (no-puts d w (Back j o.acts c.cause) event.puts refl back.puts)
   where
     m : ShowsMemory d b log w
     m = may.shows.memory

@@ -28,7 +28,7 @@ use Rattle.chip_laws.specs.Rules.{World, flush_line}
 use Rattle.chip_core.specs.declared.stage.Stage.{Stage}
 use Rattle.chip_core.specs.declared.stage.Stage.TheVariants as Stage_is
 use Rattle.chip_core.specs.declared.cores.Cores.{Cores}
-use Rattle.chip_core.specs.declared.event.Event.{Event}
+use Rattle.chip_core.specs.Seats.{Turned}
 use Rattle.chip_core.specs.Fits.{is_locked_core, is_locked_open, FitsCore, FitCores}
 use Rattle.chip_core.specs.Views.{FitsCode}
 use Rattle.chip_core.specs.Seats.{Around, around, is_spent, OpensTry, FlushesOrOpens, MakesAct}
@@ -109,7 +109,7 @@ ready-rests d w j s reached is = record {
   regs = is.regs;
 }
 
-pub ready-turn : (c : Settings) (j : ℕ) (code : CodeView) (b new : BackingView) (log later : Trace) (cores left : Cores) (s : ReadyView) (held : Stage) (event : Event)
+pub ready-turn : (c : Settings) (j : ℕ) (code : CodeView) (b new : BackingView) (log later : Trace) (cores left : Cores) (s : ReadyView) (held : Stage) (event : Turned)
     → Starts c j code b cores (Stage_is.Ready s) → IsCoherent new
     → OpensTry (is_spent cores.lock j) j s (around b cores.lock log) (around new left.lock later) held event → LeavesCores j held cores left
     → (d : Design) (w : World) → IsReached d w → c ≡ d.config → ShowsParts d code b log cores w → CoreTurns d w j code new later left event
@@ -119,7 +119,7 @@ ready-turn c j code b new log later cores left s held event start coherent opens
     (ready-rests d w j s reached (shows.cores.portions j (Stage_is.Ready s) start.holds))
     (unlocked c j code b cores (Stage_is.Ready s) start refl) coherent opens leaves
 
-pub owed-turn : (c : Settings) (j : ℕ) (code : CodeView) (b new : BackingView) (log later : Trace) (cores left : Cores) (s : FlushingView) (held : Stage) (event : Event)
+pub owed-turn : (c : Settings) (j : ℕ) (code : CodeView) (b new : BackingView) (log later : Trace) (cores left : Cores) (s : FlushingView) (held : Stage) (event : Turned)
     → Starts c j code b cores (Stage_is.Flushing s) → IsCoherent new
     → FlushesOrOpens (next_flush s b) j s (around b cores.lock log) (around new left.lock later) held event → LeavesCores j held cores left
     → (d : Design) (w : World) → IsReached d w → c ≡ d.config → ShowsParts d code b log cores w → CoreTurns d w j code new later left event
@@ -147,7 +147,7 @@ owed-turn c j code b new log later cores left s held event start coherent done l
 
 -- ---- what every core keeps
 
-opens-fits : (c : Settings) (j : ℕ) (code : CodeView) (b new : BackingView) (log later : Trace) (cores left : Cores) (s : ReadyView) (p held : Stage) (event : Event) (x : Bool)
+opens-fits : (c : Settings) (j : ℕ) (code : CodeView) (b new : BackingView) (log later : Trace) (cores left : Cores) (s : ReadyView) (p held : Stage) (event : Turned) (x : Bool)
     → Starts c j code b cores p → is_locked_open p ≡ false → s.core ≡ j → s.limits ≡ limits_of c
     → OpensTry x j s (around b cores.lock log) (around new left.lock later) held event → LeavesCores j held cores left
     → FitCores c code left.statuses.items left.portions.items left.lock
@@ -203,7 +203,7 @@ same-lock-fits c j code b cores left p held start lock locked fits leaves =
     (start.fits.locked j p start.holds ∙ sym locked) (λ k ne. refl)
     (stay-others c code j cores.portions.items left.portions.items leaves.portions.beside))
 
-pub ready-fits : (c : Settings) (j : ℕ) (code : CodeView) (b new : BackingView) (log later : Trace) (cores left : Cores) (s : ReadyView) (held : Stage) (event : Event)
+pub ready-fits : (c : Settings) (j : ℕ) (code : CodeView) (b new : BackingView) (log later : Trace) (cores left : Cores) (s : ReadyView) (held : Stage) (event : Turned)
     → Starts c j code b cores (Stage_is.Ready s)
     → OpensTry (is_spent cores.lock j) j s (around b cores.lock log) (around new left.lock later) held event → LeavesCores j held cores left
     → FitCores c code left.statuses.items left.portions.items left.lock
@@ -211,7 +211,7 @@ ready-fits c j code b new log later cores left s held event start opens leaves =
     let fits = start.fits.each j (Stage_is.Ready s) start.holds in
     opens-fits c j code b new log later cores left s (Stage_is.Ready s) held event (is_spent cores.lock j) start refl fits.0 fits.1 opens leaves
 
-pub owed-fits : (c : Settings) (j : ℕ) (code : CodeView) (b new : BackingView) (log later : Trace) (cores left : Cores) (s : FlushingView) (held : Stage) (event : Event)
+pub owed-fits : (c : Settings) (j : ℕ) (code : CodeView) (b new : BackingView) (log later : Trace) (cores left : Cores) (s : FlushingView) (held : Stage) (event : Turned)
     → Starts c j code b cores (Stage_is.Flushing s)
     → FlushesOrOpens (next_flush s b) j s (around b cores.lock log) (around new left.lock later) held event → LeavesCores j held cores left
     → FitCores c code left.statuses.items left.portions.items left.lock
@@ -248,11 +248,11 @@ spec-fits c j code b cores o start =
       few = start.fits.few j;
     }
 
-act-portion : (code : CodeView) (b : BackingView) (o : OpenView) (old new : Around) (j : ℕ) (held : Stage) (event : Event) → old.memory ≡ b
+act-portion : (code : CodeView) (b : BackingView) (o : OpenView) (old new : Around) (j : ℕ) (held : Stage) (event : Turned) → old.memory ≡ b
     → (act : MakesAct code j o old new held event) → IsPortion code o → IsPortion code act.tried
 act-portion code b o old new j held event same act (p, stands) = (_, (act.acts p stands).1)
 
-pub act-fits : (c : Settings) (j : ℕ) (code : CodeView) (b new : BackingView) (log later : Trace) (cores left : Cores) (o : OpenView) (held : Stage) (event : Event)
+pub act-fits : (c : Settings) (j : ℕ) (code : CodeView) (b new : BackingView) (log later : Trace) (cores left : Cores) (o : OpenView) (held : Stage) (event : Turned)
     → Starts c j code b cores (Stage_is.Open o) → MakesAct code j o (around b cores.lock log) (around new left.lock later) held event → LeavesCores j held cores left
     → FitCores c code left.statuses.items left.portions.items left.lock
 act-fits c j code b new log later cores left o held event start act leaves =
@@ -322,11 +322,11 @@ inside-held c j code cores range fits = subst (λ n. j < n) (sym fits.portions) 
 pub code-fits : (code : CodeView) (b new : BackingView) → FitsCode code b → HasSameNumbers b new → IsCoherent new → FitsCode code new
 code-fits code b new same n is = record { base = n.base ∙ same.base; bytes = n.size ∙ same.bytes; coherent = is }
 
-pub opens-numbers : (x : Bool) (j : ℕ) (s : ReadyView) (b new : BackingView) (lock after : Counts) (log later : Trace) (held : Stage) (event : Event)
+pub opens-numbers : (x : Bool) (j : ℕ) (s : ReadyView) (b new : BackingView) (lock after : Counts) (log later : Trace) (held : Stage) (event : Turned)
     → OpensTry x j s (around b lock log) (around new after later) held event → HasSameNumbers b new
 opens-numbers x j s b new lock after log later held event opens = subst (HasSameNumbers b) (sym opens.opens.flushes) (flushes-numbers b (flushed_lines x b))
 
-pub owed-numbers : (x : Option Line) (j : ℕ) (s : FlushingView) (b new : BackingView) (lock after : Counts) (log later : Trace) (held : Stage) (event : Event)
+pub owed-numbers : (x : Option Line) (j : ℕ) (s : FlushingView) (b new : BackingView) (lock after : Counts) (log later : Trace) (held : Stage) (event : Turned)
     → FlushesOrOpens x j s (around b lock log) (around new after later) held event → HasSameNumbers b new
 owed-numbers None j s b new lock after log later held event opens = opens-numbers (is_spent lock j) j (resting_from s) b new lock after log later held event opens
 owed-numbers (Some l) j s b new lock after log later held event flush =
@@ -334,18 +334,18 @@ owed-numbers (Some l) j s b new lock after log later held event flush =
 
 -- ---- entries that change nothing
 
-pub idle-turn : (d : Design) (w : World) (c : Settings) (j : ℕ) (code : CodeView) (b : BackingView) (log : Trace) (cores : Cores) (event : Event)
+pub idle-turn : (d : Design) (w : World) (c : Settings) (j : ℕ) (code : CodeView) (b : BackingView) (log : Trace) (cores : Cores) (event : Turned)
     → c ≡ d.config → j < c.cores → IsCoherent b → ShowsParts d code b log cores w → ((x : CoreStatus) → slice_get cores.statuses.items j ≡ Some x → core_runs x ≡ false)
-    → event.entry ≡ Entry_is.Idle (Actor_is.Core j) → event.out.items ≡ [] → CoreTurns d w j code b log cores event
+    → event.entry ≡ Entry_is.Idle (Actor_is.Core j) → event.puts ≡ [] → CoreTurns d w j code b log cores event
 idle-turn d w c j code b log cores event same range is s ends entry puts =
     still-turn d w j code b log cores event (Entry_is.Idle (Actor_is.Core j)) tt
     (next-core-idle d w j (status-runs d w j cores.statuses.items cores.portions.items (subst (λ (x : Settings). j < x.cores) same range) s.cores false ends))
     entry puts (λ h. refl) refl (quiet-parts d w code b log cores (Entry_is.Idle (Actor_is.Core j)) tt is s)
 
-pub held-turn : (d : Design) (w : World) (c : Settings) (j : ℕ) (code : CodeView) (b : BackingView) (log : Trace) (cores : Cores) (event : Event)
+pub held-turn : (d : Design) (w : World) (c : Settings) (j : ℕ) (code : CodeView) (b : BackingView) (log : Trace) (cores : Cores) (event : Turned)
     → c ≡ d.config → j < c.cores → IsCoherent b → ShowsParts d code b log cores w → ((x : CoreStatus) → slice_get cores.statuses.items j ≡ Some x → core_runs x ≡ true)
     → IsAnothers cores.lock.locked (Actor_is.Core j)
-    → event.entry ≡ Entry_is.Held (Actor_is.Core j) → event.out.items ≡ [] → CoreTurns d w j code b log cores event
+    → event.entry ≡ Entry_is.Held (Actor_is.Core j) → event.puts ≡ [] → CoreTurns d w j code b log cores event
 held-turn d w c j code b log cores event same range is s runs others entry puts =
     still-turn d w j code b log cores event (Entry_is.Held (Actor_is.Core j)) tt
     (next-core-held d w j (status-runs d w j cores.statuses.items cores.portions.items (subst (λ (x : Settings). j < x.cores) same range) s.cores true runs)

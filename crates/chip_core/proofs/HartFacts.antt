@@ -37,7 +37,6 @@ use Rattle.chip_laws.specs.Worlds.{flat_after, changed, told, seat_after, took, 
 use Rattle.chip_laws.proofs.LockFacts.{none_locked, not_locked}
 use Rattle.chip_core.specs.declared.stage.Stage.{Stage}
 use Rattle.chip_core.specs.declared.cores.Cores.{Cores}
-use Rattle.chip_core.specs.declared.event.Event.{Event}
 use Rattle.chip_core.specs.Steps.{IsUsed, used_notes, told_portion, all_told}
 use Rattle.std.proofs.lemmas.List.{length-map, length-set}
 use Rattle.chip_core.specs.Shows.{HasShape, ShowsHarts, ShowsCores, ShowsLock}

@@ -11,7 +11,7 @@ use Rattle.offload_calls.specs.declared.status.Hart.{Hart}
 use Rattle.schedule_log.specs.declared.entry.Entry.{Entry}
 use Rattle.chip_core.specs.declared.cores.Cores.{Cores}
 use Rattle.chip_core.proofs.HartFacts.{harts-after}
-use Rattle.chip_core.specs.declared.event.Event.{Event}
+use Rattle.chip_core.specs.Seats.{Turned}
 use Rattle.chip_core.specs.Views.{ChipView}
 use Rattle.chip_core.specs.Shows.{Shows, ShowsMemory, ShowsHarts, ShowsCores, ShowsLock}
 use Rattle.chip_core.specs.Turns.{HartTurns, CoreTurns, Turns}
@@ -42,11 +42,11 @@ hart-turn d w h c new was hart cores entry puts inside s at config code harts st
     t = turns (s.memory, same_Some _ _ (sym at ∙ s.harts.each h low))
 
 -- a core's event, put together
-pub core-turns : (d : Design) (w : World) (j : ℕ) (c new : ChipView) (cores : Cores) (event : Event) → Shows d c w
+pub core-turns : (d : Design) (w : World) (j : ℕ) (c new : ChipView) (cores : Cores) (event : Turned) → Shows d c w
     → new.config ≡ c.config → new.harts ≡ c.harts
     → new.statuses ≡ cores.statuses.items → new.portions ≡ cores.portions.items → new.lock ≡ cores.lock
     → CoreTurns d w j new.code (shown new.memory) new.log cores event
-    → Turns d w (Actor_is.Core j) new event.entry event.out.items
+    → Turns d w (Actor_is.Core j) new event.entry event.puts
 core-turns d w j c new cores event s config harts stats held lock t =
     record {
       entry_is = t.entry;

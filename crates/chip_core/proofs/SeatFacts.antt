@@ -19,7 +19,7 @@ use Rattle.chip_laws.specs.Worlds.{took, happens}
 use Rattle.chip_laws.proofs.LockFacts.{none_locked}
 use Rattle.chip_core.specs.declared.stage.Stage.{Stage}
 use Rattle.chip_core.specs.declared.cores.Cores.{Cores}
-use Rattle.chip_core.specs.declared.event.Event.{Event}
+use Rattle.chip_core.specs.Seats.{Turned}
 use Rattle.chip_core.specs.Fits.{is_locked_core}
 use Rattle.chip_core.specs.Shows.{HoldsAt, ShowsCores, ShowsLock}
 use Rattle.chip_core.specs.Turns.{ShowsParts, CoreTurns}
@@ -187,9 +187,9 @@ took-lock d w e j s lock seat free range backs locked shows = record {
 
 -- ---- put together
 
-pub core-turn : (d : Design) (w : World) (j : ℕ) (code : CodeView) (new : BackingView) (later : Trace) (left : Cores) (event : Event) (e : Entry)
+pub core-turn : (d : Design) (w : World) (j : ℕ) (code : CodeView) (new : BackingView) (later : Trace) (left : Cores) (event : Turned) (e : Entry)
     → next d w (Actor_is.Core j) ≡ e → event.entry ≡ e → ((h : ℕ) → (took d w e).flat.harts h ≡ w.flat.harts h)
-    → ShowsParts d code new later left (took d w e) → (took d w e).flat.output ≡ w.flat.output ++ event.out.items
+    → ShowsParts d code new later left (took d w e) → (took d w e).flat.output ≡ w.flat.output ++ event.puts
     → CoreTurns d w j code new later left event
 unfolding happens
 core-turn d w j code new later left event e next_is entry harts parts output = record {
@@ -200,8 +200,8 @@ core-turn d w j code new later left event e next_is entry harts parts output = r
 }
 
 -- an entry that changes nothing
-pub still-turn : (d : Design) (w : World) (j : ℕ) (code : CodeView) (b : BackingView) (log : Trace) (cores : Cores) (event : Event) (e : Entry) → IsStill e
-    → next d w (Actor_is.Core j) ≡ e → event.entry ≡ e → event.out.items ≡ [] → ((h : ℕ) → (took d w e).flat.harts h ≡ w.flat.harts h)
+pub still-turn : (d : Design) (w : World) (j : ℕ) (code : CodeView) (b : BackingView) (log : Trace) (cores : Cores) (event : Turned) (e : Entry) → IsStill e
+    → next d w (Actor_is.Core j) ≡ e → event.entry ≡ e → event.puts ≡ [] → ((h : ℕ) → (took d w e).flat.harts h ≡ w.flat.harts h)
     → (took d w e).flat.output ≡ w.flat.output → ShowsParts d code b log cores (took d w e)
     → CoreTurns d w j code b log cores event
 still-turn d w j code b log cores event e still next_is entry puts harts output parts =

@@ -23,7 +23,7 @@ use Rattle.chip_laws.specs.Rules.{World, Opening, is_conflict}
 use Rattle.chip_core.specs.declared.stage.Stage.{Stage}
 use Rattle.chip_core.specs.declared.stage.Stage.TheVariants as Stage_is
 use Rattle.chip_core.specs.declared.cores.Cores.{Cores}
-use Rattle.chip_core.specs.declared.event.Event.{Event}
+use Rattle.chip_core.specs.Seats.{Turned}
 use Rattle.chip_core.specs.Fits.{is_locked_core, is_locked_open, FitsTry, FitsCore, FitCores}
 use Rattle.chip_core.specs.Rulings.{HasBits, joined_portion, all_joined}
 use Rattle.chip_core.specs.Seats.{Others, around, is_spent, lock_backed, RollsBack, CommitsTry, RulesOn, HasEnded, ActsOrIsRuled}
@@ -104,7 +104,7 @@ inside-of c j code b cores p start = subst (λ n. j < n) (sym start.fits.portion
 
 -- ---- the event in the world
 
-pub try-turn : (c : Settings) (j : ℕ) (code : CodeView) (b new : BackingView) (log later : Trace) (cores left : Cores) (o : OpenView) (m held : Stage) (after : Others) (event : Event)
+pub try-turn : (c : Settings) (j : ℕ) (code : CodeView) (b new : BackingView) (log later : Trace) (cores left : Cores) (o : OpenView) (m held : Stage) (after : Others) (event : Turned)
     → CommitsAreEntries → BacksAreEntries → Starts c j code b cores (Stage_is.Open o) → IsCoherent new
     → ActsOrIsRuled code j o (around b cores.lock log) (around new left.lock later) (without cores j m) after held event
     → left.statuses.items ≡ after.statuses → left.portions.items ≡ set after.portions j held
@@ -142,7 +142,7 @@ try-turn c j code b new log later cores left o m held after event commits backs 
 
 -- ---- memory's numbers
 
-pub try-numbers : (code : CodeView) (j : ℕ) (o : OpenView) (b new : BackingView) (lock over : Counts) (log later : Trace) (others after : Others) (held : Stage) (event : Event)
+pub try-numbers : (code : CodeView) (j : ℕ) (o : OpenView) (b new : BackingView) (lock over : Counts) (log later : Trace) (others after : Others) (held : Stage) (event : Turned)
     → IsPortion code o → ActsOrIsRuled code j o (around b lock log) (around new over later) others after held event → HasSameNumbers b new
 try-numbers code j o b new lock over log later others after held event (p, stands) done = go done
   where
@@ -202,7 +202,7 @@ others-free (Some i) j k free ne = go (cases_eq i j)
     go (inl same) = ne_eqb i k (λ e. ne (sym e ∙ same))
     go (inr apart) = absurd (free apart)
 
-pub try-fits : (c : Settings) (j : ℕ) (code : CodeView) (b new : BackingView) (log later : Trace) (cores left : Cores) (o : OpenView) (m held : Stage) (after : Others) (event : Event)
+pub try-fits : (c : Settings) (j : ℕ) (code : CodeView) (b new : BackingView) (log later : Trace) (cores left : Cores) (o : OpenView) (m held : Stage) (after : Others) (event : Turned)
     → Starts c j code b cores (Stage_is.Open o)
     → ActsOrIsRuled code j o (around b cores.lock log) (around new left.lock later) (without cores j m) after held event
     → left.statuses.items ≡ after.statuses → left.portions.items ≡ set after.portions j held

@@ -30,7 +30,7 @@ use Rattle.chip_laws.specs.Rules.{World, Seat, dirty_of, flush_line, is_flushing
 use Rattle.chip_laws.specs.Worlds.{flat_after, tags_after, seat_opened, took}
 use Rattle.chip_core.specs.declared.stage.Stage.{Stage}
 use Rattle.chip_core.specs.declared.cores.Cores.{Cores}
-use Rattle.chip_core.specs.declared.event.Event.{Event}
+use Rattle.chip_core.specs.Seats.{Turned}
 use Rattle.chip_core.specs.Seats.{around, is_spent, OpensTry, FlushesLine}
 use Rattle.chip_core.specs.Shows.{HoldsAt, IsImageOf, HoldsFlushing, ShowsMemory, ShowsCores, ShowsLock}
 use Rattle.chip_core.specs.Turns.{IsReached, ShowsParts, CoreTurns}
@@ -134,7 +134,7 @@ pub record Rests (d : Design) (w : World) (j : ℕ) (s : ReadyView) : Type 0 whe
   pub limits : s.limits ≡ limits_of d.config
   pub regs : s.regs ≡ (w.flat.cores j).regs
 
-lock-turn : (d : Design) (w : World) (j : ℕ) (code : CodeView) (b new : BackingView) (log later : Trace) (cores left : Cores) (s : ReadyView) (held : Stage) (event : Event)
+lock-turn : (d : Design) (w : World) (j : ℕ) (code : CodeView) (b new : BackingView) (log later : Trace) (cores left : Cores) (s : ReadyView) (held : Stage) (event : Turned)
     → MayTurn d w j code b log cores → Rests d w j s → is_spent cores.lock j ≡ true → cores.lock.locked ≡ None → IsCoherent new
     → OpensTry true j s (around b cores.lock log) (around new left.lock later) held event → LeavesCores j held cores left
     → CoreTurns d w j code new later left event
@@ -154,7 +154,7 @@ lock-turn d w j code b new log later cores left s held event may rests spent fre
       lock = subst (λ x. ShowsLock d x (took d w (Lock j))) (sym opens.lock)
           (took-lock d w (Lock j) j (seat_opened w j true []) cores.lock (lock-seat d w j) free may.range refl refl may.shows.lock);
     })
-    (no-puts d w (Lock j) event.out.items refl opens.puts)
+    (no-puts d w (Lock j) event.puts refl opens.puts)
   where
     m : ShowsMemory d b log w
     m = may.shows.memory
@@ -180,7 +180,7 @@ lock-turn d w j code b new log later cores left s held event may rests spent fre
           locked = ap (λ (x : OpenView). x.locked) opens.opens.opened;
         })
 
-free-turn : (d : Design) (w : World) (j : ℕ) (code : CodeView) (b new : BackingView) (log later : Trace) (cores left : Cores) (s : ReadyView) (held : Stage) (event : Event)
+free-turn : (d : Design) (w : World) (j : ℕ) (code : CodeView) (b new : BackingView) (log later : Trace) (cores left : Cores) (s : ReadyView) (held : Stage) (event : Turned)
     → MayTurn d w j code b log cores → Rests d w j s → is_spent cores.lock j ≡ false → IsCoherent new
     → OpensTry false j s (around b cores.lock log) (around new left.lock later) held event → LeavesCores j held cores left
     → CoreTurns d w j code new later left event
@@ -198,7 +198,7 @@ free-turn d w j code b new log later cores left s held event may rests spent coh
       lock = subst (λ x. ShowsLock d x (took d w (Open j))) (sym opens.lock)
           (own-lock d w (Open j) j seat cores.lock (open-seat d w j) refl (sym (ap is_locked rests.closed)) may.shows.lock);
     })
-    (no-puts d w (Open j) event.out.items refl opens.puts)
+    (no-puts d w (Open j) event.puts refl opens.puts)
   where
     m : ShowsMemory d b log w
     m = may.shows.memory
@@ -226,7 +226,7 @@ free-turn d w j code b new log later cores left s held event may rests spent coh
         })
 
 -- a try opens
-pub open-turn : (d : Design) (w : World) (j : ℕ) (code : CodeView) (b new : BackingView) (log later : Trace) (cores left : Cores) (s : ReadyView) (held : Stage) (event : Event)
+pub open-turn : (d : Design) (w : World) (j : ℕ) (code : CodeView) (b new : BackingView) (log later : Trace) (cores left : Cores) (s : ReadyView) (held : Stage) (event : Turned)
     → MayTurn d w j code b log cores → Rests d w j s → cores.lock.locked ≡ None → IsCoherent new
     → OpensTry (is_spent cores.lock j) j s (around b cores.lock log) (around new left.lock later) held event → LeavesCores j held cores left
     → CoreTurns d w j code new later left event
@@ -293,7 +293,7 @@ flush-seat d w j = record {
   others = λ k ne. cond-false (eqb k j) _ _ (ne_eqb k j ne);
 }
 
-pub flush-turn : (d : Design) (w : World) (j : ℕ) (code : CodeView) (b new : BackingView) (log later : Trace) (cores left : Cores) (s : FlushingView) (l : Line) (held : Stage) (event : Event)
+pub flush-turn : (d : Design) (w : World) (j : ℕ) (code : CodeView) (b new : BackingView) (log later : Trace) (cores left : Cores) (s : FlushingView) (l : Line) (held : Stage) (event : Turned)
     → MayTurn d w j code b log cores → HoldsFlushing d j (w.flat.cores j).regs (w.seats j) s → next_flush s b ≡ Some l → IsCoherent new
     → FlushesLine l j s (around b cores.lock log) (around new left.lock later) held event → LeavesCores j held cores left
     → CoreTurns d w j code new later left event
@@ -311,7 +311,7 @@ flush-turn d w j code b new log later cores left s l held event may owed at cohe
       lock = subst (λ x. ShowsLock d x (took d w (Flush j))) (sym flush.lock)
           (own-lock d w (Flush j) j seat cores.lock (flush-seat d w j) refl refl may.shows.lock);
     })
-    (no-puts d w (Flush j) event.out.items refl flush.puts)
+    (no-puts d w (Flush j) event.puts refl flush.puts)
   where
     m : ShowsMemory d b log w
     m = may.shows.memory

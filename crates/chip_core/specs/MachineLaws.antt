@@ -1,5 +1,5 @@
 -- A chip is a machine.
-use Rattle.std.specs.Prelude.{◌≡◌, List, [], ◌++◌, length}
+use Rattle.std.specs.Prelude.{◌≡◌, List, ◌++◌, length}
 use Rattle.std.proofs.Common.{ap}
 use Rattle.conda_base.specs.declared.actor.Actor.{Actor}
 use Rattle.streams.specs.Fronts.{IsFrontOf}

@@ -12,7 +12,7 @@ use Rattle.offload_calls.specs.declared.status.Hart.{Hart}
 use Rattle.chip_laws.specs.Design.{Design, IsDesign, IsActorOf}
 use Rattle.chip_laws.specs.Rules.{World, next}
 use Rattle.chip_laws.specs.Worlds.{happens, took, world}
-use Rattle.chip_core.specs.declared.event.Event.{Event}
+use Rattle.chip_core.specs.Seats.{Turned}
 use Rattle.chip_core.specs.declared.cores.Cores.{Cores}
 use Rattle.chip_core.specs.Views.{ChipView, AreNotedIn}
 use Rattle.chip_core.specs.Shows.{Shows, ShowsMemory, ShowsCores, ShowsLock}
@@ -67,11 +67,11 @@ pub record IsReached (d : Design) (w : World) : Type 0 where
 -- one event of core j
 pub record CoreTurns
     (d : Design) (w : World) (j : ℕ) (code : CodeView) (b : BackingView) (log : Trace)
-    (cores : Cores) (event : Event) : Type 0 where
+    (cores : Cores) (event : Turned) : Type 0 where
   pub entry : event.entry ≡ next d w (Actor_is.Core j)
   pub harts : (h : ℕ) → (happens d w (Actor_is.Core j)).flat.harts h ≡ w.flat.harts h
   pub parts : ShowsParts d code b log cores (happens d w (Actor_is.Core j))
-  pub output : (happens d w (Actor_is.Core j)).flat.output ≡ w.flat.output ++ event.out.items
+  pub output : (happens d w (Actor_is.Core j)).flat.output ≡ w.flat.output ++ event.puts
 
 -- where no core is locked, what fits a configuration still does
 abbrev pub KeepFits : CodeView → Cores → Cores → Type 0

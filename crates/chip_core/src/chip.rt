@@ -157,18 +157,15 @@ impl Chip {
                 &mut self.log,
                 out,
             ),
-            Actor::Core(j) => {
-                let event = core_event(
-                    j,
-                    &self.config,
-                    &self.code,
-                    &mut self.memory,
-                    &mut self.cores,
-                    &mut self.log,
-                );
-                *out = event.out;
-                event.entry
-            }
+            Actor::Core(j) => core_event(
+                j,
+                &self.config,
+                &self.code,
+                &mut self.memory,
+                &mut self.cores,
+                &mut self.log,
+                out,
+            ),
         }
     }
 }

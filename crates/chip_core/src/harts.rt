@@ -77,7 +77,7 @@ pub fn hart_event(
             if waits(&hart.regs, &cores.statuses) {
                 return Entry::Waits(h);
             }
-            *out = call(hart, cores);
+            call(hart, cores, out);
             Entry::Step(h)
         }
         Ok(planned) => {
@@ -145,15 +145,15 @@ fn act(
     finish(&mut hart.regs, planned.instr, loaded);
 }
 
-// A call of a hart that goes on, and the bytes that it puts.
-fn call(hart: &mut Hart, cores: &mut Cores) -> ArrayVec<u8, 64>
+// A call of a hart that goes on. The byte that it puts comes into `out`.
+fn call(hart: &mut Hart, cores: &mut Cores, out: &mut ArrayVec<u8, 64>)
     requires runs { hart_runs hart.old.status ≡ true }
     requires goes_on { waits (slice_get cores.old.statuses.items) hart.old.regs ≡ false }
     requires held { length cores.old.portions.items ≡ length cores.old.statuses.items }
     requires counted { length cores.old.lock.backs ≡ length cores.old.statuses.items }
-    ensures { MakesCall hart.old cores.old cores.new hart.new result.items }
+    requires empty { out.old.items ≡ [] }
+    ensures { MakesCall hart.old cores.old cores.new hart.new out.new.items }
 {
-    let mut out = ArrayVec::new();
     match serve_hart(&mut hart.regs, &mut cores.statuses) {
         Served::Next => {}
         Served::Exit(value) => hart.status = HartStatus::Exit(value),
@@ -161,7 +161,6 @@ fn call(hart: &mut Hart, cores: &mut Cores) -> ArrayVec<u8, 64>
         Served::Put(byte) => out.push(byte),
         Served::Trapped(trap) => hart.status = HartStatus::Trapped(trap),
     }
-    out
 }
 
 // Starts an idle core at an entry, with an argument in x10: its rollbacks count anew.

@@ -27,14 +27,15 @@ ghost use Rattle.chip_core.specs.Seats.{
   CommitsTry,
   RulesOn,
   ActsOrIsRuled,
+  turned,
 };
 ghost use Rattle.chip_core.specs.Turns.{CoreTurns, IsReached, KeepsNoted, ShowsParts};
 ghost use Rattle.conflict_resolve.specs.Commits.{Commits};
 ghost use Rattle.portion_ctl.specs.States.{Flushes, Rules};
 
 use crate::cores::Cores;
-use crate::event::Event;
 use crate::stage::Stage;
+use arrayvec::ArrayVec;
 use bloom_sig::Signature;
 use chip_config::Config;
 use coherent_mem::Coherent;
@@ -64,20 +65,20 @@ fn open(
     memory: &mut Coherent,
     lock: &mut Lock,
     log: &mut Traffic,
-) -> (Stage, Event)
+) -> (Stage, Entry)
     requires counted { j < length lock.old.backs }
     requires free { lock.old.locked ≡ None }
     ensures { OpensTry (is_spent lock.old j) j ready
         (around (shown memory.old) lock.old log.old)
-        (around (shown memory.new) lock.new log.new) result.0 result.1 }
+        (around (shown memory.new) lock.new log.new) result.0 (turned result.1 []) }
 {
     if is_next_locked(lock, j) {
         let open = ready.open(true, memory, log);
         lock.took(j);
-        return (Stage::Open(open), Event::quiet(Entry::Lock(j)));
+        return (Stage::Open(open), Entry::Lock(j));
     }
     let open = ready.open(false, memory, log);
-    (Stage::Open(open), Event::quiet(Entry::Open(j)))
+    (Stage::Open(open), Entry::Open(j))
 }
 
 // Flushes a line that is due, or opens the next try.
@@ -87,15 +88,15 @@ fn flush(
     memory: &mut Coherent,
     lock: &mut Lock,
     log: &mut Traffic,
-) -> (Stage, Event)
+) -> (Stage, Entry)
     requires counted { j < length lock.old.backs }
     requires free { lock.old.locked ≡ None }
     ensures { FlushesOrOpens (next_flush flushing (shown memory.old)) j flushing
         (around (shown memory.old) lock.old log.old)
-        (around (shown memory.new) lock.new log.new) result.0 result.1 }
+        (around (shown memory.new) lock.new log.new) result.0 (turned result.1 []) }
 {
     match flushing.step(memory, log) {
-        Flushed::Wrote(flushing) => (Stage::Flushing(flushing), Event::quiet(Entry::Flush(j))),
+        Flushed::Wrote(flushing) => (Stage::Flushing(flushing), Entry::Flush(j)),
         Flushed::Done(ready) => open(j, ready, memory, lock, log),
     }
 }
@@ -113,17 +114,17 @@ fn count_back(lock: &mut Lock, j: u8)
 }
 
 // Takes a try back.
-fn roll_back(j: u8, clash: Clash, memory: &Coherent, lock: &mut Lock) -> (Stage, Event)
+fn roll_back(j: u8, clash: Clash, memory: &Coherent, lock: &mut Lock) -> (Stage, Entry)
     requires counted { j < length lock.old.backs }
     requires few { backs_of lock.old j ≤ lock.old.retries }
     ensures { (log : Trace) → RollsBack j clash (around (shown memory.now) lock.old log)
-        (around (shown memory.now) lock.new log) result.0 result.1 }
+        (around (shown memory.now) lock.new log) result.0 (turned result.1 []) }
 {
     let undone = back(clash, memory);
     count_back(lock, j);
     (
         Stage::Flushing(undone.flushing),
-        Event::quiet(Entry::Back(j, undone.n, undone.cause)),
+        Entry::Back(j, undone.n, undone.cause),
     )
 }
 
@@ -134,7 +135,8 @@ fn keep(
     memory: &mut Coherent,
     cores: &mut Cores,
     log: &mut Traffic,
-) -> (Stage, Event)
+    out: &mut ArrayVec<u8, 64>,
+) -> (Stage, Entry)
     requires range { j < length cores.old.statuses.items }
     requires counted { j < length cores.old.lock.backs }
     requires bits { All (HasBits clear.try.write_set.bits) cores.old.portions.items }
@@ -143,18 +145,16 @@ fn keep(
     ensures { CommitsTry j clear
         (around (shown memory.old) cores.old.lock log.old)
         (around (shown memory.new) cores.new.lock log.new)
-        (others_in cores.old) (others_in cores.new) result.0 result.1 }
+        (others_in cores.old) (others_in cores.new) result.0 (turned result.1 out.new.items) }
 {
     tell_all(&mut cores.portions, clear.writes());
     let kept = commit(clear, memory, log);
     cores.lock.gave(j);
     cores.statuses[j as usize] = kept.status;
+    *out = kept.out;
     (
         Stage::Ready(kept.ready),
-        Event {
-            entry: Entry::Commit(j, kept.n, kept.cause),
-            out: kept.out,
-        },
+        Entry::Commit(j, kept.n, kept.cause),
     )
 }
 
@@ -165,21 +165,23 @@ fn rule(
     memory: &mut Coherent,
     cores: &mut Cores,
     log: &mut Traffic,
-) -> (Stage, Event)
+    out: &mut ArrayVec<u8, 64>,
+) -> (Stage, Entry)
     requires range { j < length cores.old.statuses.items }
     requires counted { j < length cores.old.lock.backs }
     requires few { backs_of cores.old.lock j ≤ cores.old.lock.retries }
     requires bits { All (HasBits ended.try.write_set.bits) cores.old.portions.items }
     requires lines { (shown memory.old).line_bytes ≡ ended.try.limits.line_bytes }
     requires in_range { All (IsInRange (shown memory.old)) ended.try.cache.stored }
+    requires empty { out.old.items ≡ [] }
     ensures { RulesOn j ended
         (around (shown memory.old) cores.old.lock log.old)
         (around (shown memory.new) cores.new.lock log.new)
-        (others_in cores.old) (others_in cores.new) result.0 result.1 }
+        (others_in cores.old) (others_in cores.new) result.0 (turned result.1 out.new.items) }
 {
     match ended.judge() {
         Verdict::Clash(clash) => roll_back(j, clash, memory, &mut cores.lock),
-        Verdict::Clear(clear) => keep(j, clear, memory, cores, log),
+        Verdict::Clear(clear) => keep(j, clear, memory, cores, log, out),
     }
 }
 
@@ -212,23 +214,25 @@ fn spec(
     memory: &mut Coherent,
     cores: &mut Cores,
     log: &mut Traffic,
-) -> (Stage, Event)
+    out: &mut ArrayVec<u8, 64>,
+) -> (Stage, Entry)
     requires range { j < length cores.old.statuses.items }
     requires counted { j < length cores.old.lock.backs }
     requires few { backs_of cores.old.lock j ≤ cores.old.lock.retries }
     requires bits { All (HasBits tried.limits.sig_bits) cores.old.portions.items }
     requires portion { IsPortion code.now tried }
     requires fits { FitsMemory code.now (shown memory.old) tried.limits.line_bytes }
+    requires empty { out.old.items ≡ [] }
     ensures { ActsOrIsRuled code.now j tried
         (around (shown memory.old) cores.old.lock log.old)
         (around (shown memory.new) cores.new.lock log.new)
-        (others_in cores.old) (others_in cores.new) result.0 result.1 }
+        (others_in cores.old) (others_in cores.new) result.0 (turned result.1 out.new.items) }
 {
     let _addresses = code.base();
     let _lines = memory.line_bytes();
     match tried.act(code, memory, log) {
-        Acted::Ran(open) => (Stage::Open(open), Event::quiet(Entry::Spec(j))),
-        Acted::Ends(ended) => rule(j, ended, memory, cores, log),
+        Acted::Ran(open) => (Stage::Open(open), Entry::Spec(j)),
+        Acted::Ends(ended) => rule(j, ended, memory, cores, log, out),
     }
 }
 
@@ -238,7 +242,8 @@ fn is_running(status: CoreStatus) -> bool
     matches!(status, CoreStatus::Run)
 }
 
-// One event of core j. While it lasts the core's own place holds nothing.
+// One event of core j. While it lasts the core's own place holds nothing. What a commit puts comes
+// into `out`.
 pub fn core_event(
     j: u8,
     config: &Config,
@@ -246,15 +251,18 @@ pub fn core_event(
     memory: &mut Coherent,
     cores: &mut Cores,
     log: &mut Traffic,
-) -> Event
+    out: &mut ArrayVec<u8, 64>,
+) -> Entry
     requires range { j < config.now.cores }
     requires same { FitsCode code.now (shown memory.old) }
     requires line_bytes { (shown memory.old).line_bytes ≡ config.now.line_bytes }
     requires cores { FitCores (settings config.now) code.now cores.old.statuses.items
         cores.old.portions.items cores.old.lock }
+    requires empty { out.old.items ≡ [] }
     ensures turns { (d : Design) (w : World) → IsReached d w → settings config.now ≡ d.config
         → ShowsParts d code.now (shown memory.old) log.old cores.old w
-        → CoreTurns d w j code.now (shown memory.new) log.new cores.new result }
+        → CoreTurns d w j code.now (shown memory.new) log.new cores.new
+        (turned result out.new.items) }
     ensures kept { FitsCode code.now (shown memory.new) }
     ensures numbers { HasSameNumbers (shown memory.old) (shown memory.new) }
     ensures noted { KeepsNoted (shown memory.old) log.old (shown memory.new) log.new }
@@ -263,30 +271,30 @@ pub fn core_event(
 {
     let _addresses = code.base();
     if !is_running(cores.statuses[j as usize]) {
-        return Event::quiet(Entry::Idle(Actor::Core(j)));
+        return Entry::Idle(Actor::Core(j));
     }
     if cores.lock.held(Actor::Core(j)) {
-        return Event::quiet(Entry::Held(Actor::Core(j)));
+        return Entry::Held(Actor::Core(j));
     }
     match mem::replace(&mut cores.portions[j as usize], Stage::Moved) {
         Stage::Ready(ready) => {
-            let (after, event) = open(j, ready, memory, &mut cores.lock, log);
+            let (after, entry) = open(j, ready, memory, &mut cores.lock, log);
             cores.portions[j as usize] = after;
             let _coherent = memory.plain();
-            event
+            entry
         }
         Stage::Flushing(flushing) => {
-            let (after, event) = flush(j, flushing, memory, &mut cores.lock, log);
+            let (after, entry) = flush(j, flushing, memory, &mut cores.lock, log);
             cores.portions[j as usize] = after;
             let _coherent = memory.plain();
-            event
+            entry
         }
         Stage::Open(tried) => {
-            let (after, event) = spec(j, tried, code, memory, cores, log);
+            let (after, entry) = spec(j, tried, code, memory, cores, log, out);
             cores.portions[j as usize] = after;
             let _coherent = memory.plain();
-            event
+            entry
         }
-        Stage::Moved => Event::quiet(Entry::Idle(Actor::Core(j))),
+        Stage::Moved => Entry::Idle(Actor::Core(j)),
     }
 }

@@ -74,12 +74,12 @@ returns-else-waits-clause-turns c d w reached s at =
     let free = free-hart d c.args.cores.now.lock w h s.lock (λ o. false≢true (sym c.if-held.false ∙ c.held.ensures.1 o)) in
     let plan = sym c.plan.ensures.value ∙ c.in-Ok.is in
     let is_call = sym c.is_call.ensures ∙ c.if-is_call.true in
-    step-turns d w h c.args.code.now c.call.new.hart (shown c.args.memory.now) c.args.log.now c.call.new.cores c.call.result.items c.call.result.items
+    step-turns d w h c.args.code.now c.call.new.hart (shown c.args.memory.now) c.args.log.now c.call.new.cores c.call.new.out.items c.call.new.out.items
     (next-step d w h runs free
     (waiting-at d w h c.args.code.now c.args.hart.now (slice_get c.args.cores.now.statuses.items) false s.code_is at see
     (waits-call c.args.code.now (slice_get c.args.cores.now.statuses.items) r c.in-Ok.planned plan is_call ∙ sym c.waits.ensures ∙ c.if-waits.false)))
     refl
-    (call-steps d w h c.args.code.now c.args.hart.now c.call.new.hart (shown c.args.memory.now) c.args.log.now c.args.cores.now c.call.new.cores c.in-Ok.planned c.call.result.items
+    (call-steps d w h c.args.code.now c.args.hart.now c.call.new.hart (shown c.args.memory.now) c.args.log.now c.args.cores.now c.call.new.cores c.in-Ok.planned c.call.new.out.items
     (reached-sound d w reached) c.requires.same.coherent s at runs (plan-at d w h c.args.code.now c.args.hart.now (Ok c.in-Ok.planned) s.code_is at plan) is_call
     (sym c.waits.ensures ∙ c.if-waits.false) (many-statuses d w c.args.cores.now s) c.call.ensures)
 
@@ -102,7 +102,7 @@ returns-in-Ok-2-clause-turns c d w reached s at =
 pub returns-else-waits-clause-cores : goal.returns-else-waits-clause-cores
 returns-else-waits-clause-cores c =
     let f = c.requires.cores in
-    call-fits c.args.code.now c.args.hart.now c.call.new.hart c.args.cores.now c.call.new.cores c.call.result.items
+    call-fits c.args.code.now c.args.hart.now c.call.new.hart c.args.cores.now c.call.new.cores c.call.new.out.items
     (f.portions ∙ sym f.statuses) c.call.ensures (settings c.args.config.now)
     (nobody c.args.cores.now.lock.locked c.args.h (λ o. false≢true (sym c.if-held.false ∙ c.held.ensures.1 o))) f
 

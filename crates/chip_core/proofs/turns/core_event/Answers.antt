@@ -1,11 +1,13 @@
-use Rattle.std.proofs.Common.{◌∙◌, sym, refl, true, false}
+use Rattle.std.proofs.Common.{◌∙◌, sym, refl, true, false, []}
 use Rattle.std.proofs.lemmas.Bool.{false≢true}
 use Rattle.coherent_mem.specs.Parts.{shown}
 use Rattle.std.specs.Vec.{with_item}
 use Rattle.portion_ctl.specs.States.{next_flush}
+use Rattle.conda_base.specs.declared.actor.Actor.TheVariants as Actor_is
+use Rattle.schedule_log.specs.declared.entry.Entry.TheVariants as Entry_is
 use Rattle.chip_core.specs.declared.stage.Stage.TheVariants as Stage_is
 use Rattle.chip_core.specs.declared.cores.Cores.{Cores}
-use Rattle.chip_core.specs.Seats.{is_spent, others_in}
+use Rattle.chip_core.specs.Seats.{is_spent, others_in, turned}
 use Rattle.chip_core.proofs.EntryFacts.{commits_are_entries, backs_are_entries}
 use Rattle.chip_core.proofs.TryFacts.{others-bits, without, try-turn, try-numbers, try-fits}
 use Rattle.chip_core.proofs.TurnFacts.{LeavesCores}
@@ -16,16 +18,16 @@ use Rattle.chip_config.specs.Settings.{settings}
 
 pub returns-then-not-is_running-clause-turns : goal.returns-then-not-is_running-clause-turns
 returns-then-not-is_running-clause-turns c d w reached same s =
-    idle-turn d w (settings c.args.config.now) c.args.j c.args.code.now (shown c.args.memory.now) c.args.log.now c.args.cores.now c.quiet.result same c.requires.range c.requires.same.coherent s
+    idle-turn d w (settings c.args.config.now) c.args.j c.args.code.now (shown c.args.memory.now) c.args.log.now c.args.cores.now (turned (Entry_is.Idle (Actor_is.Core c.args.j)) c.args.out.now.items) same c.requires.range c.requires.same.coherent s
     (runs-from c.args.cores.now.statuses.items c.deref.result.now c.args.j _ c.is_running.result false c.deref.ensures.0 c.is_running.ensures c.if-not-is_running.true)
-    c.quiet.ensures.entry c.quiet.ensures.puts
+    refl c.requires.empty
 
 pub returns-then-held-clause-turns : goal.returns-then-held-clause-turns
 returns-then-held-clause-turns c d w reached same s =
-    held-turn d w (settings c.args.config.now) c.args.j c.args.code.now (shown c.args.memory.now) c.args.log.now c.args.cores.now c.quiet-then-held.result same c.requires.range c.requires.same.coherent s
+    held-turn d w (settings c.args.config.now) c.args.j c.args.code.now (shown c.args.memory.now) c.args.log.now c.args.cores.now (turned (Entry_is.Held (Actor_is.Core c.args.j)) c.args.out.now.items) same c.requires.range c.requires.same.coherent s
     (runs-from c.args.cores.now.statuses.items c.deref.result.now c.args.j _ c.is_running.result true c.deref.ensures.0 c.is_running.ensures c.if-not-is_running.false)
     (c.held.ensures.0 c.if-held.true)
-    c.quiet-then-held.ensures.entry c.quiet-then-held.ensures.puts
+    refl c.requires.empty
 
 pub open-after-requires-clause-free : goal.open-after-requires-clause-free
 open-after-requires-clause-free c =
@@ -84,15 +86,16 @@ returns-in-Ready-clause-turns c =
       statuses = refl;
       portions = set-twice c.args.cores.now.portions.items c.args.j c.replace.new.dest c.open-after.result.0 (inside-held (settings c.args.config.now) c.args.j c.args.code.now c.args.cores.now c.requires.range c.requires.cores);
     } in
-    ready-turn (settings c.args.config.now) c.args.j c.args.code.now (shown c.args.memory.now) (shown c.open-after.new.memory) c.args.log.now c.open-after.new.log c.args.cores.now left c.in-Ready.ready c.open-after.result.0 c.open-after.result.1
-    start c.plain-coherent.ensures.kept c.open-after.ensures leaves
+    rw c.requires.empty
+    (ready-turn (settings c.args.config.now) c.args.j c.args.code.now (shown c.args.memory.now) (shown c.open-after.new.memory) c.args.log.now c.open-after.new.log c.args.cores.now left c.in-Ready.ready c.open-after.result.0 (turned c.open-after.result.1 [])
+    start c.plain-coherent.ensures.kept c.open-after.ensures leaves)
 
 pub returns-in-Ready-clause-kept : goal.returns-in-Ready-clause-kept
 returns-in-Ready-clause-kept c =
-    code-fits c.args.code.now (shown c.args.memory.now) (shown c.open-after.new.memory) c.requires.same (opens-numbers (is_spent c.args.cores.now.lock c.args.j) c.args.j c.in-Ready.ready (shown c.args.memory.now) (shown c.open-after.new.memory) c.args.cores.now.lock c.open-after.new.lock c.args.log.now c.open-after.new.log c.open-after.result.0 c.open-after.result.1 c.open-after.ensures) c.plain-coherent.ensures.kept
+    code-fits c.args.code.now (shown c.args.memory.now) (shown c.open-after.new.memory) c.requires.same (opens-numbers (is_spent c.args.cores.now.lock c.args.j) c.args.j c.in-Ready.ready (shown c.args.memory.now) (shown c.open-after.new.memory) c.args.cores.now.lock c.open-after.new.lock c.args.log.now c.open-after.new.log c.open-after.result.0 (turned c.open-after.result.1 []) c.open-after.ensures) c.plain-coherent.ensures.kept
 
 pub returns-in-Ready-clause-numbers : goal.returns-in-Ready-clause-numbers
-returns-in-Ready-clause-numbers c = opens-numbers (is_spent c.args.cores.now.lock c.args.j) c.args.j c.in-Ready.ready (shown c.args.memory.now) (shown c.open-after.new.memory) c.args.cores.now.lock c.open-after.new.lock c.args.log.now c.open-after.new.log c.open-after.result.0 c.open-after.result.1 c.open-after.ensures
+returns-in-Ready-clause-numbers c = opens-numbers (is_spent c.args.cores.now.lock c.args.j) c.args.j c.in-Ready.ready (shown c.args.memory.now) (shown c.open-after.new.memory) c.args.cores.now.lock c.open-after.new.lock c.args.log.now c.open-after.new.log c.open-after.result.0 (turned c.open-after.result.1 []) c.open-after.ensures
 
 pub returns-in-Ready-clause-cores : goal.returns-in-Ready-clause-cores
 returns-in-Ready-clause-cores c =
@@ -106,7 +109,7 @@ returns-in-Ready-clause-cores c =
       statuses = refl;
       portions = set-twice c.args.cores.now.portions.items c.args.j c.replace.new.dest c.open-after.result.0 (inside-held (settings c.args.config.now) c.args.j c.args.code.now c.args.cores.now c.requires.range c.requires.cores);
     } in
-    ready-fits (settings c.args.config.now) c.args.j c.args.code.now (shown c.args.memory.now) (shown c.open-after.new.memory) c.args.log.now c.open-after.new.log c.args.cores.now left c.in-Ready.ready c.open-after.result.0 c.open-after.result.1
+    ready-fits (settings c.args.config.now) c.args.j c.args.code.now (shown c.args.memory.now) (shown c.open-after.new.memory) c.args.log.now c.open-after.new.log c.args.cores.now left c.in-Ready.ready c.open-after.result.0 (turned c.open-after.result.1 [])
     start c.open-after.ensures leaves
 
 pub returns-in-Flushing-clause-turns : goal.returns-in-Flushing-clause-turns
@@ -121,15 +124,16 @@ returns-in-Flushing-clause-turns c =
       statuses = refl;
       portions = set-twice c.args.cores.now.portions.items c.args.j c.replace.new.dest c.flush-after.result.0 (inside-held (settings c.args.config.now) c.args.j c.args.code.now c.args.cores.now c.requires.range c.requires.cores);
     } in
-    owed-turn (settings c.args.config.now) c.args.j c.args.code.now (shown c.args.memory.now) (shown c.flush-after.new.memory) c.args.log.now c.flush-after.new.log c.args.cores.now left c.in-Flushing.flushing c.flush-after.result.0 c.flush-after.result.1
-    start c.plain-coherent-in-Flushing.ensures.kept c.flush-after.ensures leaves
+    rw c.requires.empty
+    (owed-turn (settings c.args.config.now) c.args.j c.args.code.now (shown c.args.memory.now) (shown c.flush-after.new.memory) c.args.log.now c.flush-after.new.log c.args.cores.now left c.in-Flushing.flushing c.flush-after.result.0 (turned c.flush-after.result.1 [])
+    start c.plain-coherent-in-Flushing.ensures.kept c.flush-after.ensures leaves)
 
 pub returns-in-Flushing-clause-kept : goal.returns-in-Flushing-clause-kept
 returns-in-Flushing-clause-kept c =
-    code-fits c.args.code.now (shown c.args.memory.now) (shown c.flush-after.new.memory) c.requires.same (owed-numbers (next_flush c.in-Flushing.flushing (shown c.args.memory.now)) c.args.j c.in-Flushing.flushing (shown c.args.memory.now) (shown c.flush-after.new.memory) c.args.cores.now.lock c.flush-after.new.lock c.args.log.now c.flush-after.new.log c.flush-after.result.0 c.flush-after.result.1 c.flush-after.ensures) c.plain-coherent-in-Flushing.ensures.kept
+    code-fits c.args.code.now (shown c.args.memory.now) (shown c.flush-after.new.memory) c.requires.same (owed-numbers (next_flush c.in-Flushing.flushing (shown c.args.memory.now)) c.args.j c.in-Flushing.flushing (shown c.args.memory.now) (shown c.flush-after.new.memory) c.args.cores.now.lock c.flush-after.new.lock c.args.log.now c.flush-after.new.log c.flush-after.result.0 (turned c.flush-after.result.1 []) c.flush-after.ensures) c.plain-coherent-in-Flushing.ensures.kept
 
 pub returns-in-Flushing-clause-numbers : goal.returns-in-Flushing-clause-numbers
-returns-in-Flushing-clause-numbers c = owed-numbers (next_flush c.in-Flushing.flushing (shown c.args.memory.now)) c.args.j c.in-Flushing.flushing (shown c.args.memory.now) (shown c.flush-after.new.memory) c.args.cores.now.lock c.flush-after.new.lock c.args.log.now c.flush-after.new.log c.flush-after.result.0 c.flush-after.result.1 c.flush-after.ensures
+returns-in-Flushing-clause-numbers c = owed-numbers (next_flush c.in-Flushing.flushing (shown c.args.memory.now)) c.args.j c.in-Flushing.flushing (shown c.args.memory.now) (shown c.flush-after.new.memory) c.args.cores.now.lock c.flush-after.new.lock c.args.log.now c.flush-after.new.log c.flush-after.result.0 (turned c.flush-after.result.1 []) c.flush-after.ensures
 
 pub returns-in-Flushing-clause-cores : goal.returns-in-Flushing-clause-cores
 returns-in-Flushing-clause-cores c =
@@ -143,7 +147,7 @@ returns-in-Flushing-clause-cores c =
       statuses = refl;
       portions = set-twice c.args.cores.now.portions.items c.args.j c.replace.new.dest c.flush-after.result.0 (inside-held (settings c.args.config.now) c.args.j c.args.code.now c.args.cores.now c.requires.range c.requires.cores);
     } in
-    owed-fits (settings c.args.config.now) c.args.j c.args.code.now (shown c.args.memory.now) (shown c.flush-after.new.memory) c.args.log.now c.flush-after.new.log c.args.cores.now left c.in-Flushing.flushing c.flush-after.result.0 c.flush-after.result.1
+    owed-fits (settings c.args.config.now) c.args.j c.args.code.now (shown c.args.memory.now) (shown c.flush-after.new.memory) c.args.log.now c.flush-after.new.log c.args.cores.now left c.in-Flushing.flushing c.flush-after.result.0 (turned c.flush-after.result.1 [])
     start c.flush-after.ensures leaves
 
 pub returns-in-Open-clause-turns : goal.returns-in-Open-clause-turns
@@ -155,7 +159,7 @@ returns-in-Open-clause-turns c =
     c.index_mut.ensures.value c.replace.ensures.value c.in-Open.is in
     let left : Cores = record { statuses = c.spec-after.new.cores.statuses; portions = with_item c.spec-after.new.cores.portions c.args.j c.spec-after.result.0; lock = c.spec-after.new.cores.lock } in
     try-turn (settings c.args.config.now) c.args.j c.args.code.now (shown c.args.memory.now) (shown c.spec-after.new.memory) c.args.log.now c.spec-after.new.log c.args.cores.now left c.in-Open.tried c.replace.new.dest
-    c.spec-after.result.0 (others_in c.spec-after.new.cores) c.spec-after.result.1 commits_are_entries backs_are_entries start c.plain-coherent-in-Open.ensures.kept c.spec-after.ensures refl refl
+    c.spec-after.result.0 (others_in c.spec-after.new.cores) (turned c.spec-after.result.1 c.spec-after.new.out.items) commits_are_entries backs_are_entries start c.plain-coherent-in-Open.ensures.kept c.spec-after.ensures refl refl
 
 pub returns-in-Open-clause-kept : goal.returns-in-Open-clause-kept
 returns-in-Open-clause-kept c =
@@ -164,7 +168,7 @@ returns-in-Open-clause-kept c =
     (runs-from c.args.cores.now.statuses.items c.deref.result.now c.args.j _ c.is_running.result true c.deref.ensures.0 c.is_running.ensures c.if-not-is_running.false)
     (λ o. false≢true (sym c.if-held.false ∙ c.held.ensures.1 o))
     c.index_mut.ensures.value c.replace.ensures.value c.in-Open.is in
-    code-fits c.args.code.now (shown c.args.memory.now) (shown c.spec-after.new.memory) c.requires.same (try-numbers c.args.code.now c.args.j c.in-Open.tried (shown c.args.memory.now) (shown c.spec-after.new.memory) c.args.cores.now.lock c.spec-after.new.cores.lock c.args.log.now c.spec-after.new.log (without c.args.cores.now c.args.j c.replace.new.dest) (others_in c.spec-after.new.cores) c.spec-after.result.0 c.spec-after.result.1 (spec-fits (settings c.args.config.now) c.args.j c.args.code.now (shown c.args.memory.now) c.args.cores.now c.in-Open.tried start).portion c.spec-after.ensures) c.plain-coherent-in-Open.ensures.kept
+    code-fits c.args.code.now (shown c.args.memory.now) (shown c.spec-after.new.memory) c.requires.same (try-numbers c.args.code.now c.args.j c.in-Open.tried (shown c.args.memory.now) (shown c.spec-after.new.memory) c.args.cores.now.lock c.spec-after.new.cores.lock c.args.log.now c.spec-after.new.log (without c.args.cores.now c.args.j c.replace.new.dest) (others_in c.spec-after.new.cores) c.spec-after.result.0 (turned c.spec-after.result.1 c.spec-after.new.out.items) (spec-fits (settings c.args.config.now) c.args.j c.args.code.now (shown c.args.memory.now) c.args.cores.now c.in-Open.tried start).portion c.spec-after.ensures) c.plain-coherent-in-Open.ensures.kept
 
 pub returns-in-Open-clause-numbers : goal.returns-in-Open-clause-numbers
 returns-in-Open-clause-numbers c =
@@ -173,7 +177,7 @@ returns-in-Open-clause-numbers c =
     (runs-from c.args.cores.now.statuses.items c.deref.result.now c.args.j _ c.is_running.result true c.deref.ensures.0 c.is_running.ensures c.if-not-is_running.false)
     (λ o. false≢true (sym c.if-held.false ∙ c.held.ensures.1 o))
     c.index_mut.ensures.value c.replace.ensures.value c.in-Open.is in
-    try-numbers c.args.code.now c.args.j c.in-Open.tried (shown c.args.memory.now) (shown c.spec-after.new.memory) c.args.cores.now.lock c.spec-after.new.cores.lock c.args.log.now c.spec-after.new.log (without c.args.cores.now c.args.j c.replace.new.dest) (others_in c.spec-after.new.cores) c.spec-after.result.0 c.spec-after.result.1 (spec-fits (settings c.args.config.now) c.args.j c.args.code.now (shown c.args.memory.now) c.args.cores.now c.in-Open.tried start).portion c.spec-after.ensures
+    try-numbers c.args.code.now c.args.j c.in-Open.tried (shown c.args.memory.now) (shown c.spec-after.new.memory) c.args.cores.now.lock c.spec-after.new.cores.lock c.args.log.now c.spec-after.new.log (without c.args.cores.now c.args.j c.replace.new.dest) (others_in c.spec-after.new.cores) c.spec-after.result.0 (turned c.spec-after.result.1 c.spec-after.new.out.items) (spec-fits (settings c.args.config.now) c.args.j c.args.code.now (shown c.args.memory.now) c.args.cores.now c.in-Open.tried start).portion c.spec-after.ensures
 
 pub returns-in-Open-clause-cores : goal.returns-in-Open-clause-cores
 returns-in-Open-clause-cores c =
@@ -184,7 +188,7 @@ returns-in-Open-clause-cores c =
     c.index_mut.ensures.value c.replace.ensures.value c.in-Open.is in
     let left : Cores = record { statuses = c.spec-after.new.cores.statuses; portions = with_item c.spec-after.new.cores.portions c.args.j c.spec-after.result.0; lock = c.spec-after.new.cores.lock } in
     try-fits (settings c.args.config.now) c.args.j c.args.code.now (shown c.args.memory.now) (shown c.spec-after.new.memory) c.args.log.now c.spec-after.new.log c.args.cores.now left c.in-Open.tried c.replace.new.dest
-    c.spec-after.result.0 (others_in c.spec-after.new.cores) c.spec-after.result.1 start c.spec-after.ensures refl refl
+    c.spec-after.result.0 (others_in c.spec-after.new.cores) (turned c.spec-after.result.1 c.spec-after.new.out.items) start c.spec-after.ensures refl refl
 
 pub returns-in-Moved-clause-turns : goal.returns-in-Moved-clause-turns
 returns-in-Moved-clause-turns c =
@@ -198,12 +202,12 @@ returns-in-Moved-clause-turns c =
 pub returns-in-Ready-clause-noted : goal.returns-in-Ready-clause-noted
 returns-in-Ready-clause-noted c =
     opens-noted (is_spent c.args.cores.now.lock c.args.j) c.args.j c.in-Ready.ready (shown c.args.memory.now) (shown c.open-after.new.memory) c.args.cores.now.lock c.open-after.new.lock
-    c.args.log.now c.open-after.new.log c.open-after.result.0 c.open-after.result.1 c.requires.same.coherent.backing c.open-after.ensures
+    c.args.log.now c.open-after.new.log c.open-after.result.0 (turned c.open-after.result.1 []) c.requires.same.coherent.backing c.open-after.ensures
 
 pub returns-in-Flushing-clause-noted : goal.returns-in-Flushing-clause-noted
 returns-in-Flushing-clause-noted c =
     owed-noted (next_flush c.in-Flushing.flushing (shown c.args.memory.now)) c.args.j c.in-Flushing.flushing (shown c.args.memory.now) (shown c.flush-after.new.memory) c.args.cores.now.lock c.flush-after.new.lock
-    c.args.log.now c.flush-after.new.log c.flush-after.result.0 c.flush-after.result.1 c.requires.same.coherent.backing refl c.flush-after.ensures
+    c.args.log.now c.flush-after.new.log c.flush-after.result.0 (turned c.flush-after.result.1 []) c.requires.same.coherent.backing refl c.flush-after.ensures
 
 pub returns-in-Open-clause-noted : goal.returns-in-Open-clause-noted
 returns-in-Open-clause-noted c =
@@ -214,5 +218,5 @@ returns-in-Open-clause-noted c =
     c.index_mut.ensures.value c.replace.ensures.value c.in-Open.is in
     let fits = spec-fits (settings c.args.config.now) c.args.j c.args.code.now (shown c.args.memory.now) c.args.cores.now c.in-Open.tried start in
     try-noted c.args.code.now c.args.j c.in-Open.tried (shown c.args.memory.now) (shown c.spec-after.new.memory) c.args.cores.now.lock c.spec-after.new.cores.lock c.args.log.now c.spec-after.new.log
-    (without c.args.cores.now c.args.j c.replace.new.dest) (others_in c.spec-after.new.cores) c.spec-after.result.0 c.spec-after.result.1
+    (without c.args.cores.now c.args.j c.replace.new.dest) (others_in c.spec-after.new.cores) c.spec-after.result.0 (turned c.spec-after.result.1 c.spec-after.new.out.items)
     c.base-addresses.ensures.code c.requires.same fits.memory fits.portion c.spec-after.ensures

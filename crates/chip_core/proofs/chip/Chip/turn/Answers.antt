@@ -3,6 +3,7 @@ use Rattle.std.proofs.lemmas.Option.{slice_get_read}
 use Rattle.std.proofs.lemmas.Bool.{ltb-true}
 use Rattle.conda_base.specs.declared.actor.Actor.TheVariants as Actor_is
 use Rattle.chip_config.specs.Settings.{Settings, settings}
+use Rattle.chip_core.specs.Seats.{turned}
 use Rattle.chip_core.specs.Views.{ChipView, has}
 use Rattle.chip_core.specs.Shows.{Shows}
 use Rattle.chip_core.proofs.PartFacts.{hart-turn, core-turns}
@@ -34,7 +35,7 @@ pub returns-in-Core-clause-turns : goal.returns-in-Core-clause-turns
 returns-in-Core-clause-turns c d w reached s =
     let was : ChipView = record { config = settings c.self.inside.config; code = c.self.inside.code; memory = c.self.inside.memory; harts = c.self.inside.harts.items; statuses = c.self.inside.cores.statuses.items; portions = c.self.inside.cores.portions.items; lock = c.self.inside.cores.lock; log = c.self.inside.log } in
     let shows : Shows d was w = rw c.self.view_is s in
-    let new : ChipView = record { config = settings c.self.inside.config; code = c.self.inside.code; memory = c.core_event-event.new.memory; harts = c.self.inside.harts.items; statuses = c.core_event-event.new.cores.statuses.items; portions = c.core_event-event.new.cores.portions.items; lock = c.core_event-event.new.cores.lock; log = c.core_event-event.new.log } in
+    let new : ChipView = record { config = settings c.self.inside.config; code = c.self.inside.code; memory = c.core_event.new.memory; harts = c.self.inside.harts.items; statuses = c.core_event.new.cores.statuses.items; portions = c.core_event.new.cores.portions.items; lock = c.core_event.new.cores.lock; log = c.core_event.new.log } in
     rw c.in-Core.is
-    (core-turns d w c.in-Core.j was new c.core_event-event.new.cores c.core_event-event.result shows refl refl refl refl refl
-    (c.core_event-event.ensures.turns d w reached shows.config (record { code_is = shows.code; memory = shows.memory; cores = shows.cores; lock = shows.lock })))
+    (core-turns d w c.in-Core.j was new c.core_event.new.cores (turned c.core_event.result c.core_event.new.out.items) shows refl refl refl refl refl
+    (c.core_event.ensures.turns d w reached shows.config (record { code_is = shows.code; memory = shows.memory; cores = shows.cores; lock = shows.lock })))
