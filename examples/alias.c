@@ -2,8 +2,9 @@
 // has, in one segment of a signature with `sig_bits` 9, the bit of the line that is read: together they look like it.
 //
 // Look at: on the plain chip the order has `r 0 .. 1` after each try, and never `f 0`, since no line that was read is
-// dirty; in the end comes the lock. With `"sig_bits":10` three of the four bits come apart, and the first try
-// commits.
+// dirty; in the end comes the lock. In the report, `corefill` counts the line 00040000 once for each of the four tries,
+// and no other note has it: nobody else ever had it. With `"sig_bits":10` three of the four bits come apart, the first
+// try commits, and `corefill` is 1.
 #include "conda.h"
 
 #ifdef __riscv

@@ -2,7 +2,9 @@
 // second.
 //
 // Look at: with lines of 64 bytes both are in one line, so the hart's stores meet the kernel's portion, and the order
-// has `r 0 .. 1` and in the end the lock. With `"line_bytes":32` they are in two lines, and the first try commits.
+// has `r 0 .. 1` and in the end the lock. In the report, the notes have a `corefill` of that line for each of the four
+// tries, a `back` for each flush, and at the commit `drop` and `merge`, since it takes the line away from the hart. With
+// `"line_bytes":32` the counters are in two lines: the first try commits, `corefill` is 1, and `back` and `drop` are 0.
 #include "conda.h"
 
 static struct {
