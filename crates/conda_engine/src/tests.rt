@@ -5,13 +5,19 @@ use crate::{Status, conda};
 use conda_host::MemoryHost;
 use std::alloc::{AllocError, Global};
 
+mod calls;
 mod chip;
 mod chip_programs;
+mod ends;
 mod examples;
 mod faults;
+mod filled;
 mod programs;
 mod refusals;
+mod reports;
 mod self_runs;
+mod tries;
+mod writers;
 
 const ENTRY: u32 = 65536;
 

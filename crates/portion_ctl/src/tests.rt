@@ -13,6 +13,7 @@ use rv32_hart::Code;
 use std::alloc::{AllocError, Global};
 use std::mem;
 use std::process::Abort;
+use std::test::Fail;
 use traffic_trace::{Kind, Traffic};
 
 // lw x5, 0(x10)
@@ -345,7 +346,7 @@ fn a_step_over_a_clean_memory_is_done(rt: HostRuntime) -> Result<(), AllocError>
 }
 
 #[test]
-fn a_seat_is_moved_on(rt: HostRuntime) -> Result<(), AllocError> {
+fn a_seat_is_moved_on(rt: HostRuntime) -> Result<(), Fail> {
     let config = Config::plain();
     assert_eq!(rt; config.line_bytes, 64);
     let bytes = memory_bytes([LOOP, 0, 0, 0]);
@@ -354,13 +355,15 @@ fn a_seat_is_moved_on(rt: HostRuntime) -> Result<(), AllocError> {
     let mut seats = Vec::new(rt.alloc());
     seats.push(Seat::Free(Ready::new(rt.alloc(), 0, &config)?))?;
     assert_eq!(rt; seats.len(), 1);
-    if let Seat::Free(ready) = mem::replace(&mut seats[0], Seat::Moved) {
-        seats[0] = Seat::Busy(ready.open(true, &mut memory, &mut log));
-    }
-    if let Seat::Busy(open) = &seats[0] {
-        assert!(rt; open.locked());
-        assert_eq!(rt; open.regs().pc, 0);
-        assert!(rt; !open.cache().filled(Line(1)));
-    }
+    let Seat::Free(ready) = mem::replace(&mut seats[0], Seat::Moved) else {
+        return Err("a seat that isn't free".into());
+    };
+    seats[0] = Seat::Busy(ready.open(true, &mut memory, &mut log));
+    let Seat::Busy(open) = &seats[0] else {
+        return Err("a seat that isn't busy".into());
+    };
+    assert!(rt; open.locked());
+    assert_eq!(rt; open.regs().pc, 0);
+    assert!(rt; !open.cache().filled(Line(1)));
     Ok(())
 }

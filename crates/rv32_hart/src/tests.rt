@@ -5,6 +5,7 @@ use crate::{Access, Code, Planned, Regs, Trap, amo_result, finish, plan};
 use arrayvec::ArrayVec;
 use rv32_decode::{AmoOp, BranchOp, Instr, LoadOp, RegOp};
 use std::alloc::{AllocError, Global};
+use std::test::Fail;
 
 // addi x10, x0, 65; addi x17, x0, 1003; ecall
 const ONE_LETTER: [u8; 12] = [
@@ -46,15 +47,17 @@ fn result_of(op: RegOp, a: u32, b: u32) -> u32 {
 }
 
 #[test]
-fn puts_one_letter(rt: HostRuntime) -> Result<(), AllocError> {
+fn puts_one_letter(rt: HostRuntime) -> Result<(), Fail> {
     let code = code_at_65536(rt.alloc(), &ONE_LETTER)?;
     let mut r = Regs::new(0x1_0000);
     for _ in 0..2 {
-        if let Ok(planned) = plan(&code, &r) {
-            if let Access::Nothing = planned.access {
-                finish(&mut r, planned.instr, 0);
-            }
-        }
+        let Ok(planned) = plan(&code, &r) else {
+            return Err("a trap".into());
+        };
+        let Access::Nothing = planned.access else {
+            return Err("an access".into());
+        };
+        finish(&mut r, planned.instr, 0);
     }
     assert_eq!(rt; r.x[10], 65);
     let put = Planned {
@@ -100,7 +103,7 @@ fn a_load_of_half_a_word_too_far(rt: HostRuntime) -> Result<(), AllocError> {
 }
 
 #[test]
-fn an_atomic_is_planned(rt: HostRuntime) -> Result<(), AllocError> {
+fn an_atomic_is_planned(rt: HostRuntime) -> Result<(), Fail> {
     let code = code_at_65536(rt.alloc(), &TARGETS)?;
     let mut r = Regs::new(0x1_000c);
     r.x[6] = 1;
@@ -111,9 +114,10 @@ fn an_atomic_is_planned(rt: HostRuntime) -> Result<(), AllocError> {
         rd: 5,
         value: 1,
     };
-    if let Ok(planned) = plan(&code, &r) {
-        assert_eq!(rt; planned.access, access);
-    }
+    let Ok(planned) = plan(&code, &r) else {
+        return Err("a trap".into());
+    };
+    assert_eq!(rt; planned.access, access);
     assert_eq!(rt; plan(&code, &Regs::new(0x1_0010)), trap(2, 0));
     Ok(())
 }

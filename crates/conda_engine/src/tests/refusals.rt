@@ -1,5 +1,6 @@
 // Runs that are refused.
-use super::{AMPLE, ENTRY, Grants, ONE_LETTER, WORDS, host_with, named, plain, run, run_on};
+use super::filled::Filled;
+use super::{AMPLE, ENTRY, ONE_LETTER, WORDS, host_with, named, plain, run, run_on};
 use crate::{Status, conda, status_text};
 use arrayvec::ArrayVec;
 use chip_config::ConfigFault;
@@ -8,46 +9,160 @@ use elf_loader::ImageFault;
 use std::alloc::{AllocError, Global};
 use std::test::Fail;
 
-// What the image of one letter is refused for, with another word at a place: each rule's fault, in
-// the order of the rules, but for those on its length and on two segments; then further ways to break
-// a rule.
-const LIES: [(u8, u32, ImageFault); 19] = [
-    (0, 0x474c_457f, ImageFault::NotElf),
-    (4, 0x0001_0102, ImageFault::NotClass32),
-    (4, 0x0001_0201, ImageFault::NotLittle),
-    (4, 0x0000_0101, ImageFault::BadVersion),
-    (16, 0x00f3_0003, ImageFault::NotExec),
-    (16, 0x003e_0002, ImageFault::NotRiscv),
-    (36, 1, ImageFault::BadFlags(1)),
-    (40, 0x0020_0035, ImageFault::BadHeaderSize),
-    (44, 65, ImageFault::TooManySegments(65)),
-    (28, 0xffff_ffff, ImageFault::TableOutside),
-    (52, 2, ImageFault::Dynamic(0)),
-    (72, 20, ImageFault::BadSegment(0)),
-    (60, 16_777_216, ImageFault::SegmentOutside(0)),
-    (44, 0, ImageFault::NoSegment),
-    (24, 65_538, ImageFault::BadEntry(65_538)),
-    (56, 0xffff_ffff, ImageFault::BadSegment(0)),
-    (60, 0xffff_fffc, ImageFault::SegmentOutside(0)),
-    (76, 6, ImageFault::BadEntry(65_536)),
-    (24, 65_560, ImageFault::BadEntry(65_560)),
+// What is refused.
+#[derive(Clone, Copy)]
+enum Given {
+    // A run with this configuration.
+    Config(&'static str),
+    // A run of the image of one letter, cut to so many bytes.
+    Cut(usize),
+    // A run of the image of one letter with another word at a place.
+    Lie(u8, u32),
+    // A run of an image with two headers for the same bytes.
+    Overlap,
+    // A command whose file of this role is so many times this byte.
+    Bytes(Role, u8, usize),
+}
+
+// What each is refused for: each rule of configurations in its order, those on the size of lines
+// among them, each rule of images in its order and further ways to break one, and each limit on
+// bytes.
+const REFUSALS: &[(Given, Status)] = &[
+    (Given::Config("{"), Status::Config(ConfigFault::NotJson)),
+    (Given::Config("[]"), Status::Config(ConfigFault::NotObject)),
+    (
+        Given::Config("{\"hart\":1}"),
+        Status::Config(ConfigFault::UnknownKey),
+    ),
+    (
+        Given::Config("{\"harts\":\"1\"}"),
+        Status::Config(ConfigFault::NotNumber(1)),
+    ),
+    (
+        Given::Config("{\"harts\":9}"),
+        Status::Config(ConfigFault::OutOfRange(1, 9)),
+    ),
+    (
+        Given::Config("{\"line_bytes\":48}"),
+        Status::Config(ConfigFault::OutOfRange(16, 48)),
+    ),
+    (
+        Given::Config("{\"line_bytes\":32,\"mem_base\":32}"),
+        Status::Config(ConfigFault::OutOfRange(3, 32)),
+    ),
+    (
+        Given::Config("{\"mem_base\":4294967232,\"mem_bytes\":4096}"),
+        Status::Config(ConfigFault::BadMemory(4_294_967_232, 4096)),
+    ),
+    (
+        Given::Config("{\"line_bytes\":128,\"mem_bytes\":4160}"),
+        Status::Config(ConfigFault::BadMemory(0, 4160)),
+    ),
+    (Given::Cut(51), Status::Image(ImageFault::Short)),
+    (
+        Given::Lie(0, 0x474c_457f),
+        Status::Image(ImageFault::NotElf),
+    ),
+    (
+        Given::Lie(4, 0x0001_0102),
+        Status::Image(ImageFault::NotClass32),
+    ),
+    (
+        Given::Lie(4, 0x0001_0201),
+        Status::Image(ImageFault::NotLittle),
+    ),
+    (
+        Given::Lie(4, 0x0000_0101),
+        Status::Image(ImageFault::BadVersion),
+    ),
+    (
+        Given::Lie(16, 0x00f3_0003),
+        Status::Image(ImageFault::NotExec),
+    ),
+    (
+        Given::Lie(16, 0x003e_0002),
+        Status::Image(ImageFault::NotRiscv),
+    ),
+    (Given::Lie(36, 1), Status::Image(ImageFault::BadFlags(1))),
+    (
+        Given::Lie(40, 0x0020_0035),
+        Status::Image(ImageFault::BadHeaderSize),
+    ),
+    (
+        Given::Lie(44, 65),
+        Status::Image(ImageFault::TooManySegments(65)),
+    ),
+    (
+        Given::Lie(28, 0xffff_ffff),
+        Status::Image(ImageFault::TableOutside),
+    ),
+    (Given::Lie(52, 2), Status::Image(ImageFault::Dynamic(0))),
+    (Given::Lie(72, 20), Status::Image(ImageFault::BadSegment(0))),
+    (
+        Given::Lie(60, 16_777_216),
+        Status::Image(ImageFault::SegmentOutside(0)),
+    ),
+    (Given::Overlap, Status::Image(ImageFault::Overlap(1))),
+    (Given::Lie(44, 0), Status::Image(ImageFault::NoSegment)),
+    (
+        Given::Lie(24, 65_538),
+        Status::Image(ImageFault::BadEntry(65_538)),
+    ),
+    (
+        Given::Lie(56, 0xffff_ffff),
+        Status::Image(ImageFault::BadSegment(0)),
+    ),
+    (
+        Given::Lie(60, 0xffff_fffc),
+        Status::Image(ImageFault::SegmentOutside(0)),
+    ),
+    (
+        Given::Lie(76, 6),
+        Status::Image(ImageFault::BadEntry(65_536)),
+    ),
+    (
+        Given::Lie(24, 65_560),
+        Status::Image(ImageFault::BadEntry(65_560)),
+    ),
+    (
+        Given::Bytes(Role::Config, b' ', 65_537),
+        Status::TooLarge {
+            role: Role::Config,
+            limit: 65_536,
+        },
+    ),
+    (
+        Given::Bytes(Role::Image, 0, 33_554_433),
+        Status::TooLarge {
+            role: Role::Image,
+            limit: 33_554_432,
+        },
+    ),
+    (
+        Given::Bytes(Role::Schedule, b'\n', 1_073_741_825),
+        Status::TooLarge {
+            role: Role::Schedule,
+            limit: 1_073_741_824,
+        },
+    ),
+    (
+        Given::Bytes(Role::Source, b'\n', 134_217_729),
+        Status::TooLarge {
+            role: Role::Source,
+            limit: 134_217_728,
+        },
+    ),
+    (
+        Given::Bytes(Role::Program, 0, 33_554_433),
+        Status::TooLarge {
+            role: Role::Program,
+            limit: 33_554_432,
+        },
+    ),
 ];
 
 // A program header for bytes that the first segment has too.
 const SECOND_HEADER: [u32; 8] = [1, 84, ENTRY, ENTRY, 4, 4, 7, 4];
-
-// What configurations are refused for, in the order of the rules.
-const REFUSED: [(&str, ConfigFault); 6] = [
-    ("{", ConfigFault::NotJson),
-    ("[]", ConfigFault::NotObject),
-    ("{\"hart\":1}", ConfigFault::UnknownKey),
-    ("{\"harts\":\"1\"}", ConfigFault::NotNumber(1)),
-    ("{\"harts\":9}", ConfigFault::OutOfRange(1, 9)),
-    (
-        "{\"mem_base\":4294967232,\"mem_bytes\":4096}",
-        ConfigFault::BadMemory(4_294_967_232, 4096),
-    ),
-];
 
 // Puts a word into an image.
 fn put_word(image: &mut Vec<u8>, place: u8, word: u32) {
@@ -58,60 +173,96 @@ fn put_word(image: &mut Vec<u8>, place: u8, word: u32) {
     }
 }
 
-// What an image leads to with another word at a place.
-fn status_with(alloc: Global, words: &[u32], place: u8, word: u32) -> Result<Status, AllocError> {
+// An image with another word at a place.
+fn lying(alloc: Global, words: &[u32], place: u8, word: u32) -> Result<Vec<u8>, AllocError> {
     let mut image = plain(alloc, words)?;
     put_word(&mut image, place, word);
+    Ok(image)
+}
+
+fn cut(alloc: Global, count: usize) -> Result<Vec<u8>, AllocError> {
+    let mut image = plain(alloc, &ONE_LETTER)?;
+    image.truncate(count);
+    Ok(image)
+}
+
+// The words of a command that reads a file of this role.
+fn words_with(alloc: Global, role: Role) -> Result<Vec<String>, AllocError> {
+    match role {
+        Role::Source => named(alloc, &["asm", "--source=s", "--program=p"]),
+        Role::Program => named(alloc, &["dis", "--source=s", "--program=p"]),
+        _ => {
+            let mut words = named(alloc, &WORDS)?;
+            words.push(String::from_str(alloc, "--config=c")?)?;
+            Ok(words)
+        }
+    }
+}
+
+// What a command leads to whose file of this role is so many times a byte.
+fn status_of_bytes(
+    alloc: Global,
+    role: Role,
+    byte: u8,
+    count: usize,
+) -> Result<Status, AllocError> {
+    let words = words_with(alloc, role)?;
+    let image = plain(alloc, &ONE_LETTER)?;
+    let mut host = Filled {
+        role,
+        byte,
+        count,
+        config: b"{}",
+        image: &image,
+    };
+    Ok(conda(alloc, &words, &mut host))
+}
+
+// What an image leads to.
+fn status_of_image(alloc: Global, image: Vec<u8>) -> Result<Status, AllocError> {
     let (status, _) = run(alloc, image, b"")?;
     Ok(status)
 }
 
+fn status_of(alloc: Global, given: Given) -> Result<Status, AllocError> {
+    match given {
+        Given::Config(text) => {
+            let (status, _) = config_status(alloc, text.as_bytes())?;
+            Ok(status)
+        }
+        Given::Cut(count) => status_of_image(alloc, cut(alloc, count)?),
+        Given::Lie(place, word) => {
+            status_of_image(alloc, lying(alloc, &ONE_LETTER, place, word)?)
+        }
+        Given::Overlap => status_of_image(alloc, lying(alloc, &SECOND_HEADER, 44, 2)?),
+        Given::Bytes(role, byte, count) => status_of_bytes(alloc, role, byte, count),
+    }
+}
+
+// The place of the first refusal that another status comes of.
+fn first_other(alloc: Global, refusals: &[(Given, Status)]) -> Result<Option<usize>, AllocError> {
+    for (place, refusal) in refusals.iter().enumerate() {
+        if status_of(alloc, refusal.0)? != refusal.1 {
+            return Ok(Some(place));
+        }
+    }
+    Ok(None)
+}
+
 #[test]
-fn an_image_that_is_cut(rt: HostRuntime) -> Result<(), Fail> {
+fn each_refusal(rt: HostRuntime) -> Result<(), Fail> {
+    assert_eq!(rt; first_other(rt.alloc(), REFUSALS)?, None);
+    Ok(())
+}
+
+#[test]
+fn a_refused_image_makes_no_file(rt: HostRuntime) -> Result<(), Fail> {
     let alloc = rt.alloc();
-    let mut image = plain(alloc, &ONE_LETTER)?;
-    image.truncate(51);
-    let (status, host) = run(alloc, image, b"h0 6")?;
+    let (status, host) = run(alloc, cut(alloc, 51)?, b"h0 6")?;
     assert_eq!(rt; status, Status::Image(ImageFault::Short));
     assert_eq!(rt; host.file("order"), None);
     assert_eq!(rt; host.file("report"), None);
     assert_eq!(rt; host.file("output"), None);
-    Ok(())
-}
-
-#[test]
-fn each_lie_of_an_image(rt: HostRuntime) -> Result<(), Fail> {
-    let alloc = rt.alloc();
-    for (place, word, fault) in LIES {
-        let status = status_with(alloc, &ONE_LETTER, place, word)?;
-        assert_eq!(rt; status, Status::Image(fault));
-    }
-    Ok(())
-}
-
-#[test]
-fn two_segments_that_overlap(rt: HostRuntime) -> Result<(), Fail> {
-    let status = status_with(rt.alloc(), &SECOND_HEADER, 44, 2)?;
-    assert_eq!(rt; status, Status::Image(ImageFault::Overlap(1)));
-    Ok(())
-}
-
-#[test]
-fn an_image_of_too_many_bytes(rt: HostRuntime) -> Result<(), Fail> {
-    let alloc = rt.alloc();
-    let grants = Grants {
-        room: 1000,
-        most: 1_000_000,
-        failing: 0,
-    };
-    let image = vec![in alloc; 0u8; 33_554_433]?;
-    let (status, host) = run_on(alloc, b"{}", image, b"h0 6", grants)?;
-    let limit = Status::TooLarge {
-        role: Role::Image,
-        limit: 33_554_432,
-    };
-    assert_eq!(rt; status, limit);
-    assert_eq!(rt; host.file("order"), None);
     Ok(())
 }
 
@@ -167,16 +318,6 @@ fn a_refused_configuration(rt: HostRuntime) -> Result<(), Fail> {
     let mut text: ArrayVec<u8, 128> = ArrayVec::new();
     status_text(&status, &mut text);
     assert_eq!(rt; text.as_slice(), b"conda: config fault 5 1 9".as_slice());
-    Ok(())
-}
-
-#[test]
-fn each_refused_configuration(rt: HostRuntime) -> Result<(), Fail> {
-    let alloc = rt.alloc();
-    for (config, fault) in REFUSED {
-        let (status, _) = config_status(alloc, config.as_bytes())?;
-        assert_eq!(rt; status, Status::Config(fault));
-    }
     Ok(())
 }
 
