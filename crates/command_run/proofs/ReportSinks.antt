@@ -1,6 +1,6 @@
 -- The report's file as the file of its sink.
 use Rattle.std.proofs.Common.{◌≡◌, ℕ, true, false, IsTrue, List, [], ◌++◌, Result, Ok, Err, refl, sym, ◌∙◌, ap, subst, append-nil, inl, inr}
-use Rattle.std.specs.Prelude.{◌||◌, ◌==◌, Option, Some, None, IfErr, IfSome, IsSomeAnd, OnErr}
+use Rattle.std.specs.Prelude.{◌||◌, ◌==◌, Option, Some, None, IfErr, IsSomeAnd, OnErr}
 use Rattle.std.proofs.lemmas.Bool.{cond-true}
 use Rattle.conda_host.specs.declared.outside.Role.{Role}
 use Rattle.conda_host.specs.declared.outside.Role.TheVariants as role

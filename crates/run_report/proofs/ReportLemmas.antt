@@ -1,6 +1,6 @@
 -- Pieces of the report, one after another.
-use Rattle.std.proofs.Common.{◌≡◌, ℕ, ◌+◌, ◌-◌, ◌*◌, ◌/◌, ◌<◌, ◌≤◌, ◌^◌, List, [], ◌++◌, length, take, replicate, IsTrue, refl, sym, ◌∙◌, ap, subst, arith, append_assoc, add-one, suc, zero, true, false, nat_eq, Bool, ◌∷◌, ⊎_elim, get_or}
-use Rattle.std.specs.Prelude.{Result, Ok, Err, OnOk, OnErr, Option, Some, None}
+use Rattle.std.proofs.Common.{◌≡◌, ℕ, ◌+◌, ◌-◌, ◌*◌, ◌/◌, ◌<◌, ◌≤◌, ◌^◌, List, [], ◌++◌, length, take, replicate, refl, sym, ◌∙◌, ap, subst, arith, append_assoc, add-one, suc, zero, true, false, nat_eq, Bool, ◌∷◌, ⊎_elim, get_or}
+use Rattle.std.specs.Prelude.{Result, Ok, Err, OnOk, OnErr, Some, None}
 use Rattle.std.specs.List.{flat_map, slice_get, All}
 use Rattle.std.proofs.Math.Seq.{take-suc}
 use Rattle.std.proofs.lemmas.List.{append-nil}
