@@ -7,7 +7,7 @@ use Rattle.std.specs.Simd.Lanes.{chunk, put_chunk, zip2, fold_l}
 use Rattle.std.proofs.lemmas.Simd.{length-zip2, length-chunk, length-put_chunk, get_or-chunk, get_or-zip2, get_or-put_chunk_below, get_or-put_chunk_at, get_or-put_chunk_above}
 use Rattle.std.proofs.lemmas.Nat.Bits.{bit_at_or, bit_at_and, bit_at-lt, bit_at-zero, bit_at-trailing_zeros, same_from_bits}
 use Rattle.std.proofs.lemmas.Bool.{false≢true, cases_eq, cases_lt, ne_eqb}
-use Rattle.bloom_sig.specs.Words.{AreApart, AreJoined, ShareBit, bit_of_words}
+use Rattle.bloom_sig.specs.Words.{AreDisjoint, AreJoined, ShareBit, bit_of_words}
 
 -- ---- an or that is 0
 
@@ -33,7 +33,7 @@ or_zeros a b first second = ap (λ x. bit_or x b) first ∙ ap (bit_or 0) second
 -- ---- bits in common
 
 -- two runs of words, one behind the other
-pub apart-append : (first second from middle until : ℕ) (a b : List ℕ) → from ≤ middle → middle ≤ until → (first ≡ 0) ↔ AreApart from middle a b → (second ≡ 0) ↔ AreApart middle until a b → (bit_or first second ≡ 0) ↔ AreApart from until a b
+pub apart-append : (first second from middle until : ℕ) (a b : List ℕ) → from ≤ middle → middle ≤ until → (first ≡ 0) ↔ AreDisjoint from middle a b → (second ≡ 0) ↔ AreDisjoint middle until a b → (bit_or first second ≡ 0) ↔ AreDisjoint from until a b
 apart-append first second from middle until a b up on one two = (
   λ none k above below.
       ⊎_elim
@@ -47,7 +47,7 @@ apart-append first second from middle until a b up on one two = (
 )
 
 -- one word
-pub apart_word : (k : ℕ) (a b : List ℕ) → (bit_and (get_or a k 0) (get_or b k 0) ≡ 0) ↔ AreApart k (k + 1) a b
+pub apart_word : (k : ℕ) (a b : List ℕ) → (bit_and (get_or a k 0) (get_or b k 0) ≡ 0) ↔ AreDisjoint k (k + 1) a b
 apart_word k a b = (
   λ none i above below. let same : i ≡ k = omega arith in rw same none,
   λ apart. apart k (omega arith) (omega arith),
@@ -86,7 +86,7 @@ length-and at a b room other =
     length-zip2 bit_and (chunk at 4 a) (chunk at 4 b) (omega arith) ∙ first
 
 -- one vector
-pub apart_vector : (at : ℕ) (a b : List ℕ) → at + 4 ≤ length a → at + 4 ≤ length b → (fold_l bit_or 0 (zip2 bit_and (chunk at 4 a) (chunk at 4 b)) ≡ 0) ↔ AreApart at (at + 4) a b
+pub apart_vector : (at : ℕ) (a b : List ℕ) → at + 4 ≤ length a → at + 4 ≤ length b → (fold_l bit_or 0 (zip2 bit_and (chunk at 4 a) (chunk at 4 b)) ≡ 0) ↔ AreDisjoint at (at + 4) a b
 apart_vector at a b room other = (
   λ none k above below.
       let here : at + (k - at) ≡ k = omega arith in
@@ -99,17 +99,17 @@ apart_vector at a b room other = (
       (λ k below. and_at at k a b room other (omega arith) ∙ apart (at + k) (omega arith) (omega arith)),
 )
 
-pub apart_next : (first second i : ℕ) (a b : List ℕ) → (first ≡ 0) ↔ AreApart 0 (i * 4) a b → (second ≡ 0) ↔ AreApart (i * 4) (i * 4 + 4) a b → (bit_or first second ≡ 0) ↔ AreApart 0 ((i + 1) * 4) a b
+pub apart_next : (first second i : ℕ) (a b : List ℕ) → (first ≡ 0) ↔ AreDisjoint 0 (i * 4) a b → (second ≡ 0) ↔ AreDisjoint (i * 4) (i * 4 + 4) a b → (bit_or first second ≡ 0) ↔ AreDisjoint 0 ((i + 1) * 4) a b
 apart_next first second i a b one two =
     let next : (i + 1) * 4 ≡ i * 4 + 4 = omega arith in
     rw next (apart-append first second 0 (i * 4) (i * 4 + 4) a b (omega arith) (omega arith) one two)
 
 -- a word with a bit in common, if there is one
-find_shared : (count : ℕ) (a b : List ℕ) → AreApart 0 count a b ⊎ ((k : ℕ) × (k < count) × (bit_and (get_or a k 0) (get_or b k 0) ≢ 0))
+find_shared : (count : ℕ) (a b : List ℕ) → AreDisjoint 0 count a b ⊎ ((k : ℕ) × (k < count) × (bit_and (get_or a k 0) (get_or b k 0) ≢ 0))
 find_shared zero a b = inl (λ k above below. absurd (omega arith))
 find_shared (suc count) a b = go (find_shared count a b) (cases_eq (bit_and (get_or a count 0) (get_or b count 0)) 0)
   where
-    go : AreApart 0 count a b ⊎ ((k : ℕ) × (k < count) × (bit_and (get_or a k 0) (get_or b k 0) ≢ 0)) → (bit_and (get_or a count 0) (get_or b count 0) ≡ 0) ⊎ (bit_and (get_or a count 0) (get_or b count 0) ≢ 0) → AreApart 0 (suc count) a b ⊎ ((k : ℕ) × (k < suc count) × (bit_and (get_or a k 0) (get_or b k 0) ≢ 0))
+    go : AreDisjoint 0 count a b ⊎ ((k : ℕ) × (k < count) × (bit_and (get_or a k 0) (get_or b k 0) ≢ 0)) → (bit_and (get_or a count 0) (get_or b count 0) ≡ 0) ⊎ (bit_and (get_or a count 0) (get_or b count 0) ≢ 0) → AreDisjoint 0 (suc count) a b ⊎ ((k : ℕ) × (k < suc count) × (bit_and (get_or a k 0) (get_or b k 0) ≢ 0))
     go (inr found) last = inr (found.0, omega (arith, found.1), found.2)
     go (inl apart) (inr shared) = inr (count, omega arith, shared)
     go (inl apart) (inl none) = inl (λ k above below.
@@ -163,11 +163,11 @@ not_zero (suc n) is none = absurd (omega arith)
 is_not_zero : (n : ℕ) → n ≢ 0 → IsTrue (not (eqb n 0))
 is_not_zero n some = ap not (ne_eqb n 0 some)
 
-pub share_a_bit-from : (common : ℕ) (a b : List ℕ) → ((k : ℕ) → get_or a k 0 < 2 ^ 64) → (common ≡ 0) ↔ AreApart 0 (length a) a b → IsTrue (not (eqb common 0)) ↔ ShareBit a b
+pub share_a_bit-from : (common : ℕ) (a b : List ℕ) → ((k : ℕ) → get_or a k 0 < 2 ^ 64) → (common ≡ 0) ↔ AreDisjoint 0 (length a) a b → IsTrue (not (eqb common 0)) ↔ ShareBit a b
 share_a_bit-from common a b fits is = (
   λ some.
       ⊎_elim
-      (λ (apart : AreApart 0 (length a) a b). absurd (not_zero common some (is.1 apart)))
+      (λ (apart : AreDisjoint 0 (length a) a b). absurd (not_zero common some (is.1 apart)))
       (λ (found : (k : ℕ) × (k < length a) × (bit_and (get_or a k 0) (get_or b k 0) ≢ 0)). shared_bit a b found.0 (fits found.0) found.2)
       (find_shared (length a) a b),
   λ share.

@@ -31,8 +31,8 @@ pub record AreJoined (from until : ℕ) (old others new : List ℕ) : Type 0 whe
   pub behind : (k : ℕ) → until ≤ k → slice_index new k ≡ slice_index old k
 
 -- no word in this range has a bit in common with the other word of its place
-abbrev pub AreApart : ℕ → ℕ → List ℕ → List ℕ → Type 0
-AreApart from until words others = (k : ℕ) → from ≤ k → k < until → bit_and (slice_index words k) (slice_index others k) ≡ 0
+abbrev pub AreDisjoint : ℕ → ℕ → List ℕ → List ℕ → Type 0
+AreDisjoint from until words others = (k : ℕ) → from ≤ k → k < until → bit_and (slice_index words k) (slice_index others k) ≡ 0
 
 -- some number's bit is 1 in both
 abbrev pub ShareBit : List ℕ → List ℕ → Type 0

@@ -14,7 +14,7 @@ ghost use Rattle.std.specs.Prelude.{
   IsTrue,
 };
 ghost use Rattle.std.specs.Simd.Lanes.{chunk, put_chunk, zip2};
-ghost use Rattle.bloom_sig.specs.Words.{AreApart, AreJoined, IsSet, ShareBit, bit_of_words};
+ghost use Rattle.bloom_sig.specs.Words.{AreDisjoint, AreJoined, IsSet, ShareBit, bit_of_words};
 
 use std::simd::prelude::*;
 
@@ -97,7 +97,7 @@ pub fn share_a_bit(words: &[u64], others: &[u64]) -> bool
 fn common_in_vectors(words: &[u64], others: &[u64], vectors: usize) -> u64
     requires same { length words.now ≡ length others.now }
     requires room { vectors * 4 ≤ length words.now }
-    ensures { (result ≡ 0) ↔ AreApart 0 (vectors * 4) words.now others.now }
+    ensures { (result ≡ 0) ↔ AreDisjoint 0 (vectors * 4) words.now others.now }
 {
     let mut common = 0;
     for i in 0..vectors {
@@ -110,7 +110,7 @@ fn common_in_vectors(words: &[u64], others: &[u64], vectors: usize) -> u64
 fn common_in_vector(words: &[u64], others: &[u64], at: usize) -> u64
     requires same { length words.now ≡ length others.now }
     requires room { at + 4 ≤ length words.now }
-    ensures { (result ≡ 0) ↔ AreApart at (at + 4) words.now others.now }
+    ensures { (result ≡ 0) ↔ AreDisjoint at (at + 4) words.now others.now }
 {
     (u64x4::from_slice(&words[at..]) & u64x4::from_slice(&others[at..])).reduce_or()
 }
@@ -118,7 +118,7 @@ fn common_in_vector(words: &[u64], others: &[u64], at: usize) -> u64
 // The bits in common from this word on; 0 exactly where there are none.
 fn common_in_rest(words: &[u64], others: &[u64], from: usize) -> u64
     requires same { length words.now ≡ length others.now }
-    ensures { (result ≡ 0) ↔ AreApart from (length words.now) words.now others.now }
+    ensures { (result ≡ 0) ↔ AreDisjoint from (length words.now) words.now others.now }
 {
     let mut common = 0;
     for k in from..words.len() {

@@ -49,10 +49,6 @@ multiple low high n is =
     let front = and_true (n % 64 == 0) (nat_le low n) both.0 in
     (grind (arith, nat_tests, front.0), grind (arith, nat_tests, front.1), grind (arith, nat_tests, both.1))
 
-sixteen_keys : length keys ≡ 16
-unfolding keys
-sixteen_keys = refl
-
 -- sixteen numbers of which none is outside are in their ranges
 pub ranged : (n : List ℕ) → length n ≡ 16 → first_outside keys n ≡ None → AreRanged (settings_at n)
 unfolding keys

@@ -68,9 +68,6 @@ outside_later table numbers i d here also is = outside_at table numbers i d here
 without_at : (value : Data) (table : List Entry) (i : ℕ) (d : Entry) → i < length table → first_without value (keys_from (i + 1) (drop i table)) ≡ (if is_some (number_or (get_or table i d).default (get (get_or table i d).name.now value)) then first_without value (keys_from (i + 1 + 1) (drop (i + 1) table)) else Some (NotNumber (i + 1)))
 without_at value table i d here = ap (λ (rest : List Entry). first_without value (keys_from (i + 1) rest)) (drop_more table i d here)
 
-pub without_here : (value : Data) (table : List Entry) (i : ℕ) (d : Entry) → i < length table → number_or (get_or table i d).default (get (get_or table i d).name.now value) ≡ None → first_without value (keys_from (i + 1) (drop i table)) ≡ Some (NotNumber (i + 1))
-without_here value table i d here is = without_at value table i d here ∙ rw is refl
-
 pub without_later : (value : Data) (table : List Entry) (i n : ℕ) (d : Entry) → i < length table → number_or (get_or table i d).default (get (get_or table i d).name.now value) ≡ Some n → first_without value (keys_from (i + 1) (drop i table)) ≡ first_without value (keys_from (i + 1 + 1) (drop (i + 1) table))
 without_later value table i n d here is = without_at value table i d here ∙ rw is refl
 

@@ -84,9 +84,6 @@ may-turn d w c j code b log cores p start reached same shows = record {
 pub unlocked : (c : Settings) (j : ℕ) (code : CodeView) (b : BackingView) (cores : Cores) (p : Stage) → Starts c j code b cores p → is_locked_open p ≡ false → cores.lock.locked ≡ None
 unlocked c j code b cores p start at_rest = none-or-own cores.lock.locked j start.free (start.fits.locked j p start.holds ∙ at_rest)
 
-pub counted-in : (c : Settings) (j : ℕ) (code : CodeView) (b : BackingView) (cores : Cores) (p : Stage) → Starts c j code b cores p → j < length cores.lock.backs
-counted-in c j code b cores p start = subst (λ n. j < n) (sym start.fits.counts) start.range
-
 -- ---- a core at rest
 
 settled-due : (due backs : ℕ) (x : Bool) → nat_lt 0 backs ≡ false → (0 < due → 0 < backs) → (nat_lt 0 due && x) ≡ false

@@ -1,9 +1,10 @@
 -- Memory whose tags are those after a lock: the copies follow.
 use Rattle.std.proofs.Common.{◌≡◌, ◌%◌, Bool, true, false, List, [], ◌∷◌, map, cond, eqb, refl, ap, ◌∙◌, Some}
+use Rattle.set_assoc.specs.Entries.{lookup}
 use Rattle.conda_base.specs.declared.Line.{Line}
 use Rattle.conda_base.specs.declared.Mesi.{Mesi}
 use Rattle.conda_base.specs.declared.Mesi.TheVariants.{M, E, S}
-use Rattle.line_memory.specs.Tags.{Tag, Tags, state_in, held_state, is_in_m, cleaned_state}
+use Rattle.line_memory.specs.Tags.{Tag, Tags, held_state, is_in_m, cleaned_state}
 use Rattle.line_memory.specs.Access.{after_lock, cleaned_tag}
 use Rattle.line_memory.specs.Backing.{BackingView, HasSameNumbers, IsBacking, IsInRange, shape_of}
 use Rattle.coherent_mem.specs.Steps.{StepsTo}
@@ -11,12 +12,12 @@ use Rattle.coherent_mem.proofs.DirtyFacts.{is_dirty, follows}
 use Rattle.coherent_mem.proofs.StepFacts.{clean_by_test}
 use Rattle.line_memory.proofs.BelowLemmas.{none_found}
 
-clean-state : (l : Line) (ts : List Tag) → is_in_m (state_in l (map cleaned_tag ts)) ≡ false
+clean-state : (l : Line) (ts : List Tag) → is_in_m (lookup l (map cleaned_tag ts)) ≡ false
 clean-state l [] = refl
 clean-state l (t ∷ ts) = go (eqb t.0.0 l.0) t.1 (clean-state l ts)
   where
-    go : (b : Bool) (s : Mesi) → is_in_m (state_in l (map cleaned_tag ts)) ≡ false
-        → is_in_m (cond b (Some (cleaned_state s)) (state_in l (map cleaned_tag ts))) ≡ false
+    go : (b : Bool) (s : Mesi) → is_in_m (lookup l (map cleaned_tag ts)) ≡ false
+        → is_in_m (cond b (Some (cleaned_state s)) (lookup l (map cleaned_tag ts))) ≡ false
     go true M ih = refl
     go true E ih = refl
     go true S ih = refl
@@ -37,4 +38,4 @@ lock-steps old new is numbers tags view = record {
   where
     off : (l : Line) → is_dirty (shape_of new) new.tags l ≡ false
     off l = none_found new.holders (λ k. is_in_m (held_state (shape_of new) new.tags k l))
-        (λ k u. ap (λ (t : Tags). is_in_m (state_in l (t k (l.0 % new.sets)))) tags ∙ clean-state l (old.tags k (l.0 % new.sets)))
+        (λ k u. ap (λ (t : Tags). is_in_m (lookup l (t k (l.0 % new.sets)))) tags ∙ clean-state l (old.tags k (l.0 % new.sets)))

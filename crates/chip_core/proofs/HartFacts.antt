@@ -37,7 +37,7 @@ use Rattle.chip_laws.specs.Worlds.{flat_after, changed, told, seat_after, took, 
 use Rattle.chip_laws.proofs.LockFacts.{none_locked, not_locked}
 use Rattle.chip_core.specs.declared.stage.Stage.{Stage}
 use Rattle.chip_core.specs.declared.cores.Cores.{Cores}
-use Rattle.chip_core.specs.Steps.{IsUsed, used_notes, told_portion, all_told}
+use Rattle.chip_core.specs.Steps.{UsesLine, used_notes, told_portion, all_told}
 use Rattle.std.proofs.lemmas.List.{length-map, length-set}
 use Rattle.chip_core.specs.Shows.{HasShape, ShowsHarts, ShowsCores, ShowsLock}
 use Rattle.chip_core.specs.Fits.{is_locked_core}
@@ -277,7 +277,7 @@ same-overlay e f g = cc
 pub plain-steps : (d : Design) (w : World) (h : ℕ) (code : CodeView) (hart : Hart) (b new : BackingView) (log later : Trace) (cores now : Cores) (p : Planned) (value : ℕ)
     → ShowsParts d code b log cores w → hart_runs (w.flat.harts h).status ≡ true → plan_of d.image.code (w.flat.harts h).regs ≡ Ok p
     → is_call_access p.access ≡ false → value ≡ loaded (byte_at b.base b.view) (span_of_access p.access)
-    → IsUsed h (use_of_access b.line_bytes p.access) (stores_of_access value p.access) b new
+    → UsesLine h (use_of_access b.line_bytes p.access) (stores_of_access value p.access) b new
     → later ≡ all_noted log (used_notes b h (use_of_access b.line_bytes p.access))
     → now.portions.items ≡ all_told (list_of (stored_line (use_of_access b.line_bytes p.access))) cores.portions.items
     → now.statuses.items ≡ cores.statuses.items → now.lock ≡ cores.lock

@@ -14,7 +14,7 @@ use Rattle.rv32_hart.specs.Act.{plan_of}
 use Rattle.offload_calls.specs.Effects.{Span, loads_of}
 use Rattle.conda_base.specs.LineLists.{names, same_line, line_at}
 use Rattle.try_runs.specs.Tries.{Try, is_covered, outside_line, next_outside}
-use Rattle.try_runs.proofs.LineFacts.{line_eq, names-append}
+use Rattle.conda_base.proofs.LineListLemmas.{line_eq, names-append}
 use Rattle.offload_calls.proofs.SpanFacts.{SpanFits, loads-fit}
 use Rattle.line_memory.specs.Backing.{dirty_in}
 use Rattle.try_runs.specs.Fills.{fills_with, new_line}

@@ -47,7 +47,7 @@ use Rattle.line_memory.specs.Notes.{flush_notes}
 use Rattle.line_memory.specs.Backing.{dirty_in}
 use Rattle.chip_laws.specs.Design.{hart_shape}
 use Rattle.line_memory.specs.Backing.{IsBacking}
-use Rattle.portion_ctl.specs.States.{Opens}
+use Rattle.portion_ctl.specs.States.{OpensPortion}
 use Rattle.coherent_mem.specs.Steps.{StepsTo}
 use Rattle.chip_laws.specs.Uses.{flush_after}
 use Rattle.line_memory.specs.Notes.{flushes_notes}
@@ -105,7 +105,7 @@ memory-same d w e b new log later is shows same tags flat noted_is =
 -- ---- an opening
 
 image-opened : (d : Design) (locked : Bool) (s : ReadyView) (b new : BackingView) (log later : Trace) (o : OpenView)
-    → s.limits ≡ limits_of d.config → Opens s locked b new log later o → IsImageOf d o.foreign_set (foreign_lines locked b)
+    → s.limits ≡ limits_of d.config → OpensPortion s locked b new log later o → IsImageOf d o.foreign_set (foreign_lines locked b)
 image-opened d locked s b new log later o limits opens = record {
   bits = ap (λ (x : OpenView). x.foreign_set.bits) opens.opened ∙ bits-told (no_lines s.limits.sig_bits) (foreign_lines locked b)
       ∙ ap (λ (x : Limits). x.sig_bits) limits;

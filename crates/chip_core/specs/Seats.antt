@@ -15,7 +15,7 @@ use Rattle.try_runs.specs.Fills.{Fills, Portion, portion_run}
 use Rattle.try_runs.specs.Ends.{end_of}
 use Rattle.portion_ctl.specs.Views.{ReadyView, OpenView, EndedView, FlushingView}
 use Rattle.portion_ctl.specs.Stands.{StandsFor}
-use Rattle.portion_ctl.specs.States.{Opens, resting_from, Acts, act_notes, IsSameTry, IsKeptOf, IsUndoneOf}
+use Rattle.portion_ctl.specs.States.{OpensPortion, resting_from, Acts, act_notes, IsSameTry, IsKeptOf, IsUndoneOf}
 use Rattle.portion_ctl.specs.declared.portion.Acted.TheVariants as Acted_is
 use Rattle.portion_ctl.specs.declared.portion.Kept.{Kept}
 use Rattle.portion_ctl.specs.declared.portion.Undone.{Undone}
@@ -53,7 +53,7 @@ pub record OpensTry
     : Type 0 where
   pub tried : OpenView
   pub holds : held ≡ Stage_is.Open tried
-  pub opens : Opens s locked old.memory new.memory old.log new.log tried
+  pub opens : OpensPortion s locked old.memory new.memory old.log new.log tried
   pub stands : (code : CodeView) (fills : Fills)
       → StandsFor code tried (record { regs = s.regs; fills = fills; acts = 0 })
   pub lock : new.lock ≡ (if locked then with_locked old.lock j else old.lock)

@@ -2,7 +2,7 @@
 ghost use Rattle.std.specs.Prelude.{◌≡◌, ◌<◌, ◌∷◌, [], length, true, false, Some};
 ghost use Rattle.line_memory.specs.Notes.{all_noted};
 ghost use Rattle.coherent_mem.specs.Parts.{shown};
-ghost use Rattle.coherent_mem.specs.Steps.{IsAccess, IsCoherent};
+ghost use Rattle.coherent_mem.specs.Steps.{IsAccessTo, IsCoherent};
 ghost use Rattle.conda_base.specs.Lines.{IsLineSize};
 ghost use Rattle.rv32_hart.specs.Act.{AccessFits};
 ghost use Rattle.rv32_hart.specs.Arithmetic.{amo_result};
@@ -10,7 +10,7 @@ ghost use Rattle.offload_calls.specs.Stores.{byte_at, bytes_from, number_at};
 ghost use Rattle.offload_calls.specs.Effects.{span_of_access, stores_of_access, loaded};
 ghost use Rattle.conda_base.specs.LineLists.{line_at, list_of};
 ghost use Rattle.offload_calls.specs.LineUses.{use_of_access, stored_line};
-ghost use Rattle.chip_core.specs.Steps.{IsUsed, used_notes, all_told, loads_line, stores_line};
+ghost use Rattle.chip_core.specs.Steps.{UsesLine, used_notes, all_told, loads_line, stores_line};
 ghost use Rattle.chip_core.specs.Views.{FitsCode};
 
 use crate::cores::tell;
@@ -39,7 +39,7 @@ pub fn exchange(
     ensures value { let b = shown memory.old in
         result ≡ loaded (byte_at b.base b.view) (span_of_access access) }
     ensures memory { let b = shown memory.old in
-        IsUsed h (use_of_access b.line_bytes access) (stores_of_access result access)
+        UsesLine h (use_of_access b.line_bytes access) (stores_of_access result access)
         b (shown memory.new) }
     ensures notes { let b = shown memory.old in
         log.new ≡ all_noted log.old (used_notes b h (use_of_access b.line_bytes access)) }
@@ -72,11 +72,11 @@ pub fn exchange(
 fn load(h: u8, addr: u32, size: u8, memory: &mut Coherent, log: &mut Traffic) -> u32
     requires holder { h < (shown memory.old).holders }
     requires coherent { IsCoherent (shown memory.old) }
-    requires access { IsAccess (shown memory.old) addr size }
+    requires access { IsAccessTo (shown memory.old) addr size }
     ensures value { let b = shown memory.old in
         result ≡ number_at (byte_at b.base b.view) addr size }
     ensures memory { let b = shown memory.old in
-        IsUsed h (Some (loads_line b addr)) [] b (shown memory.new) }
+        UsesLine h (Some (loads_line b addr)) [] b (shown memory.new) }
     ensures notes { let b = shown memory.old in
         log.new ≡ all_noted log.old (used_notes b h (Some (loads_line b addr))) }
     ensures kept { IsCoherent (shown memory.new) }
@@ -88,9 +88,9 @@ fn load(h: u8, addr: u32, size: u8, memory: &mut Coherent, log: &mut Traffic) ->
 fn store(h: u8, addr: u32, size: u8, value: u32, memory: &mut Coherent, log: &mut Traffic)
     requires holder { h < (shown memory.old).holders }
     requires coherent { IsCoherent (shown memory.old) }
-    requires access { IsAccess (shown memory.old) addr size }
+    requires access { IsAccessTo (shown memory.old) addr size }
     ensures memory { let b = shown memory.old in
-        IsUsed h (Some (stores_line b addr)) (bytes_from addr size value) b (shown memory.new) }
+        UsesLine h (Some (stores_line b addr)) (bytes_from addr size value) b (shown memory.new) }
     ensures notes { let b = shown memory.old in
         log.new ≡ all_noted log.old (used_notes b h (Some (stores_line b addr))) }
     ensures kept { IsCoherent (shown memory.new) }
@@ -102,10 +102,10 @@ fn store(h: u8, addr: u32, size: u8, value: u32, memory: &mut Coherent, log: &mu
 fn atomic(h: u8, addr: u32, op: AmoOp, value: u32, memory: &mut Coherent, log: &mut Traffic) -> u32
     requires holder { h < (shown memory.old).holders }
     requires coherent { IsCoherent (shown memory.old) }
-    requires access { IsAccess (shown memory.old) addr 4 }
+    requires access { IsAccessTo (shown memory.old) addr 4 }
     ensures value { let b = shown memory.old in result ≡ number_at (byte_at b.base b.view) addr 4 }
     ensures memory { let b = shown memory.old in
-        IsUsed h (Some (stores_line b addr)) (bytes_from addr 4 (amo_result op result value))
+        UsesLine h (Some (stores_line b addr)) (bytes_from addr 4 (amo_result op result value))
         b (shown memory.new) }
     ensures notes { let b = shown memory.old in
         log.new ≡ all_noted log.old (used_notes b h (Some (stores_line b addr))) }

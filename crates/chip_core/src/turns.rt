@@ -31,7 +31,7 @@ ghost use Rattle.chip_core.specs.Seats.{
 };
 ghost use Rattle.chip_core.specs.Turns.{CoreTurns, IsReached, KeepsNoted, ShowsParts};
 ghost use Rattle.conflict_resolve.specs.Commits.{Commits};
-ghost use Rattle.portion_ctl.specs.States.{Flushes, Rules};
+ghost use Rattle.portion_ctl.specs.States.{Flushes, HasVerdict};
 
 use crate::cores::Cores;
 use crate::stage::Stage;

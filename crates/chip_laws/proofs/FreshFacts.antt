@@ -14,7 +14,7 @@ use Rattle.line_memory.specs.Tags.{Tags, dirty_lines}
 use Rattle.conda_base.specs.LineLists.{names, same_line, line_at}
 use Rattle.try_runs.specs.Tries.{Try, try_act, try_over, acted, act_effect, with_line, next_outside}
 use Rattle.try_runs.specs.Fills.{try_run, byte_of, new_line, fills_with}
-use Rattle.try_runs.proofs.LineFacts.{line_eq, same_line-eq, names-with_new}
+use Rattle.conda_base.proofs.LineListLemmas.{line_eq, same_line-eq, names-with_new}
 use Rattle.try_runs.proofs.TryFacts.{try_over-agree}
 use Rattle.chip_laws.specs.Design.{Design, IsDesign, hart_shape}
 use Rattle.chip_laws.specs.Rules.{World, Seat, Opening, try_of, is_conflict, dirty_of, next}

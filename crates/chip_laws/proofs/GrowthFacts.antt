@@ -27,46 +27,46 @@ journal-append d w (a ∷ before) after = ap (λ t. next d w a ∷ t) (journal-a
 -- ---- the output
 
 -- the second state has put some bytes more
-pub record Puts (f g : State) : Type 0 where
+pub record PutsMore (f g : State) : Type 0 where
   pub bytes : List ℕ
   pub more : g.output ≡ f.output ++ bytes
 
-puts_nothing : (f : State) → Puts f f
+puts_nothing : (f : State) → PutsMore f f
 puts_nothing f = record { bytes = []; more = sym (append-nil f.output) }
 
-puts_both : (f g h : State) → Puts f g → Puts g h → Puts f h
+puts_both : (f g h : State) → PutsMore f g → PutsMore g h → PutsMore f h
 puts_both f g h one rest = record {
   bytes = one.bytes ++ rest.bytes;
   more = rest.more ∙ ap (λ o. o ++ rest.bytes) one.more ∙ append_assoc f.output one.bytes rest.bytes;
 }
 
-hart_puts : (s : Setup) (f : State) (h : ℕ) → Puts f (hart_step s f h)
+hart_puts : (s : Setup) (f : State) (h : ℕ) → PutsMore f (hart_step s f h)
 unfolding hart_step
 hart_puts s f h =
     let e = act_effect s.code (status_of s.cores f.cores) f.memory (f.harts h).regs in
-    cond_both (steps s.code (status_of s.cores f.cores) (f.harts h)) (hart_does s f h e) f (Puts f)
+    cond_both (steps s.code (status_of s.cores f.cores) (f.harts h)) (hart_does s f h e) f (PutsMore f)
     (λ _. record { bytes = e.puts; more = refl }) (λ _. puts_nothing f)
 
-act_puts : (s : Setup) (f : State) (j : ℕ) → Puts f (core_act s f j)
+act_puts : (s : Setup) (f : State) (j : ℕ) → PutsMore f (core_act s f j)
 unfolding core_act
 act_puts s f j =
     let e = core_effect s f.memory (f.cores j).regs in
-    cond_both (core_runs (f.cores j).status) (core_does s f j e) f (Puts f)
+    cond_both (core_runs (f.cores j).status) (core_does s f j e) f (PutsMore f)
     (λ _. record { bytes = e.puts; more = refl }) (λ _. puts_nothing f)
 
-acts_put : (s : Setup) (f : State) (j n : ℕ) → Puts f (core_acts s f j n)
+acts_put : (s : Setup) (f : State) (j n : ℕ) → PutsMore f (core_acts s f j n)
 unfolding core_acts
 acts_put s f j zero = puts_nothing f
 acts_put s f j (suc n) =
     puts_both f (core_acts s f j n) _ (acts_put s f j n) (act_puts s (core_acts s f j n) j)
 
-entry_puts : (s : Setup) (f : State) (e : Entry) → Puts f (executed s f e)
+entry_puts : (s : Setup) (f : State) (e : Entry) → PutsMore f (executed s f e)
 entry_puts s f (Entry_is.Step h) = hart_puts s f h
 entry_puts s f (Entry_is.Commit j n cause) = acts_put s f j n
 entry_puts s f (Entry_is.Kern j) = acts_put s f j 1
 entry_puts s f other = puts_nothing f
 
-world-puts : (d : Design) (w : World) (events : List Actor) → Puts w.flat (world_from d w events).flat
+world-puts : (d : Design) (w : World) (events : List Actor) → PutsMore w.flat (world_from d w events).flat
 unfolding world_from happens
 world-puts d w [] = puts_nothing w.flat
 world-puts d w (a ∷ events) =
@@ -82,7 +82,7 @@ pub journal_more : (d : Design) (before after : List Actor)
     → journal d (before ++ after) ≡ journal d before ++ journal_from d (world d before) after
 journal_more d before after = journal-append d (start_world d) before after
 
-pub output_more : (d : Design) (before after : List Actor) → Puts (world d before).flat (world d (before ++ after)).flat
+pub output_more : (d : Design) (before after : List Actor) → PutsMore (world d before).flat (world d (before ++ after)).flat
 output_more d before after =
     let puts = world-puts d (world d before) after in
     record {

@@ -2,13 +2,15 @@
 use Rattle.std.proofs.Common.{◌≡◌, ◌+◌, ◌<◌, ◌≤◌, ℕ, zero, suc, Bool, true, false, List, [], ◌∷◌, ◌++◌, length, refl, sym, ap, ◌∙◌, subst, arith, ◌||◌, ◌&&◌, cond, eqb, leb, not, ◌⊎◌, inl, inr, Option, Some, None, map, take, is_some}
 use Rattle.std.specs.List.{filter}
 use Rattle.std.proofs.lemmas.Bool.{false≢true, true≢false, cond_both, eqb-true, eqb-false, eq-eqb, ne_eqb, and_right, cases_Bool, false_from_ne_true, leb-true, leb-false}
+use Rattle.set_assoc.specs.Entries.{lookup}
 use Rattle.conda_base.specs.declared.Line.{Line}
 use Rattle.conda_base.specs.declared.Mesi.{Mesi}
 use Rattle.conda_base.specs.declared.Mesi.TheVariants.{M, E, S}
-use Rattle.line_memory.specs.Tags.{Tag, Tags, state_in, without_line, cleaned_at, Shape, set_of, held_state}
+use Rattle.line_memory.specs.Tags.{Tag, Tags, without_line, cleaned_at, Shape, set_of, held_state}
 use Rattle.conda_base.specs.LineLists.{names, same_line}
 use Rattle.offload_calls.specs.LineUses.{LineUse}
-use Rattle.try_runs.proofs.LineFacts.{line_eq, same_line-eq, AreDistinct}
+use Rattle.conda_base.proofs.LineListLemmas.{line_eq, same_line-eq}
+use Rattle.try_runs.proofs.LineFacts.{AreDistinct}
 use Rattle.std.proofs.Math.Seq.{take_all}
 use Rattle.traffic_trace.specs.declared.note.Kind.{Kind}
 use Rattle.traffic_trace.specs.declared.note.Kind.TheVariants as Kind_is
@@ -30,7 +32,7 @@ pub without_none : (n : Line) (ts : List Tag) → is_held n ts ≡ false → wit
 without_none n [] h = refl
 without_none n (t ∷ ts) h = go (same_line t.0 n) h (without_none n ts)
   where
-    go : (b : Bool) → is_some (cond b (Some t.1) (state_in n ts)) ≡ false → (is_held n ts ≡ false → without_line n ts ≡ ts)
+    go : (b : Bool) → is_some (cond b (Some t.1) (lookup n ts)) ≡ false → (is_held n ts ≡ false → without_line n ts ≡ ts)
         → cond (not b) (t ∷ without_line n ts) (without_line n ts) ≡ t ∷ ts
     go true h ih = absurd (true≢false h)
     go false h ih = ap (λ us. t ∷ us) (ih h)
@@ -72,8 +74,8 @@ last_leaves h l t (u ∷ ts) o = go (same_line t.0 l) refl (last_leaves h l u ts
   where
     go : (b : Bool) → same_line t.0 l ≡ b
         → one (is_held l (u ∷ ts)) ≡ notes_that (is_note Kind_is.Evict h l) (last_notes h (u ∷ ts)) + one (is_held l (take (length ts) (u ∷ ts)))
-        → one (is_some (cond b (Some t.1) (state_in l (u ∷ ts))))
-        ≡ notes_that (is_note Kind_is.Evict h l) (last_notes h (u ∷ ts)) + one (is_some (cond b (Some t.1) (state_in l (take (length ts) (u ∷ ts)))))
+        → one (is_some (cond b (Some t.1) (lookup l (u ∷ ts))))
+        ≡ notes_that (is_note Kind_is.Evict h l) (last_notes h (u ∷ ts)) + one (is_some (cond b (Some t.1) (lookup l (take (length ts) (u ∷ ts)))))
     go false e ih = ih
     go true e ih =
         let at : t.0 ≡ l = line_eq t.0 l e in
@@ -92,7 +94,7 @@ load_balance ways h n l m ts some few once out =
     front : Tag
     front = (n, m)
 
-    value : (us : List Tag) → is_held n us ≡ false → (b : Bool) → same_line n l ≡ b → one b + one (is_held l us) ≡ one (is_some (cond b (Some m) (state_in l us)))
+    value : (us : List Tag) → is_held n us ≡ false → (b : Bool) → same_line n l ≡ b → one b + one (is_held l us) ≡ one (is_some (cond b (Some m) (lookup l us)))
     value us h true e = let at : n ≡ l = line_eq n l e in let none : one (is_held l us) ≡ 0 = ap (λ k. one (is_held k us)) (sym at) ∙ ap one h in ap (λ k. 1 + k) none
     value us h false e = omega arith
 
@@ -102,7 +104,7 @@ load_balance ways h n l m ts some few once out =
     full (t ∷ us) o u e =
         subst (λ w. one (same_line n l) + one (is_held l (t ∷ us)) ≡ notes_that (is_note Kind_is.Evict h l) (last_notes h (t ∷ us)) + one (is_held l (take w (front ∷ t ∷ us)))) e
         (let gone : one (is_held l (t ∷ us)) ≡ notes_that (is_note Kind_is.Evict h l) (last_notes h (t ∷ us)) + one (is_held l (take (length us) (t ∷ us))) = last_leaves h l t us u in
-        let kept : one (same_line n l) + one (is_held l (take (length us) (t ∷ us))) ≡ one (is_some (cond (same_line n l) (Some m) (state_in l (take (length us) (t ∷ us)))))
+        let kept : one (same_line n l) + one (is_held l (take (length us) (t ∷ us))) ≡ one (is_some (cond (same_line n l) (Some m) (lookup l (take (length us) (t ∷ us)))))
         = value (take (length us) (t ∷ us)) (take_out (length us) (t ∷ us) o) (same_line n l) refl in
         omega arith)
       where
@@ -111,8 +113,8 @@ load_balance ways h n l m ts some few once out =
         take_out (suc k) [] h = refl
         take_out (suc k) (x ∷ xs) h = step (same_line x.0 n) h (take_out k xs)
           where
-            step : (b : Bool) → is_some (cond b (Some x.1) (state_in n xs)) ≡ false → (is_held n xs ≡ false → is_held n (take k xs) ≡ false)
-                → is_some (cond b (Some x.1) (state_in n (take k xs))) ≡ false
+            step : (b : Bool) → is_some (cond b (Some x.1) (lookup n xs)) ≡ false → (is_held n xs ≡ false → is_held n (take k xs) ≡ false)
+                → is_some (cond b (Some x.1) (lookup n (take k xs))) ≡ false
             step true h ih = h
             step false h ih = ih h
 
@@ -122,7 +124,7 @@ load_balance ways h n l m ts some few once out =
         let room : length ts < ways = leb-false ways (length ts) e in
         let all : take ways (front ∷ ts) ≡ front ∷ ts = take_all ways (front ∷ ts) room in
         subst (λ us. one (same_line n l) + one (is_held l ts) ≡ 0 + one (is_held l us)) (sym all)
-        (let v : one (same_line n l) + one (is_held l ts) ≡ one (is_some (cond (same_line n l) (Some m) (state_in l ts))) = value ts out (same_line n l) refl in omega arith)
+        (let v : one (same_line n l) + one (is_held l ts) ≡ one (is_some (cond (same_line n l) (Some m) (lookup l ts))) = value ts out (same_line n l) refl in omega arith)
     go true e = let le : ways ≤ length ts = leb-true ways (length ts) e in full ts out once (omega arith)
 
 -- ---- what an edit of a list does to one line
@@ -130,10 +132,10 @@ load_balance ways h n l m ts some few once out =
 held-map : (f : Tag → Tag) → ((t : Tag) → t.0 ≡ (f t).0) → (l : Line) (ts : List Tag) → is_held l (map f ts) ≡ is_held l ts
 held-map f same l [] = refl
 held-map f same l (t ∷ ts) =
-    subst (λ k. is_some (cond (same_line k l) (Some (f t).1) (state_in l (map f ts))) ≡ is_some (cond (same_line t.0 l) (Some t.1) (state_in l ts))) (same t)
+    subst (λ k. is_some (cond (same_line k l) (Some (f t).1) (lookup l (map f ts))) ≡ is_some (cond (same_line t.0 l) (Some t.1) (lookup l ts))) (same t)
     (go (same_line t.0 l) (held-map f same l ts))
   where
-    go : (b : Bool) → is_held l (map f ts) ≡ is_held l ts → is_some (cond b (Some (f t).1) (state_in l (map f ts))) ≡ is_some (cond b (Some t.1) (state_in l ts))
+    go : (b : Bool) → is_held l (map f ts) ≡ is_held l ts → is_some (cond b (Some (f t).1) (lookup l (map f ts))) ≡ is_some (cond b (Some t.1) (lookup l ts))
     go true ih = refl
     go false ih = ih
 
@@ -145,14 +147,14 @@ held-filter q l (t ∷ ts) = go (same_line t.0 l) refl (q t.0) refl (held-filter
     rest = filter (λ (u : Tag). q u.0) ts
 
     go : (b : Bool) → same_line t.0 l ≡ b → (d : Bool) → q t.0 ≡ d → is_held l rest ≡ (q l && is_held l ts)
-        → is_held l (cond d (t ∷ rest) rest) ≡ (q l && is_some (cond b (Some t.1) (state_in l ts)))
+        → is_held l (cond d (t ∷ rest) rest) ≡ (q l && is_some (cond b (Some t.1) (lookup l ts)))
     go true e true f ih =
-        ap (λ b. is_some (cond b (Some t.1) (state_in l rest))) e
+        ap (λ b. is_some (cond b (Some t.1) (lookup l rest))) e
         ∙ sym (ap (λ b. b && true) (ap q (sym (line_eq t.0 l e)) ∙ f))
     go true e false f ih =
         let none : q l ≡ false = ap q (sym (line_eq t.0 l e)) ∙ f in
         ih ∙ ap (λ b. b && is_held l ts) none ∙ sym (ap (λ b. b && true) none)
-    go false e true f ih = ap (λ b. is_some (cond b (Some t.1) (state_in l rest))) e ∙ ih
+    go false e true f ih = ap (λ b. is_some (cond b (Some t.1) (lookup l rest))) e ∙ ih
     go false e false f ih = ih
 
 same_line-sym : (a b : Line) → same_line a b ≡ same_line b a
@@ -170,7 +172,7 @@ pub length-without : (n : Line) (ts : List Tag) → AreOnce ts → is_held n ts 
 length-without n [] o h = absurd (false≢true h)
 length-without n (t ∷ ts) o h = go (same_line t.0 n) refl h (length-without n ts o.1)
   where
-    go : (b : Bool) → same_line t.0 n ≡ b → is_some (cond b (Some t.1) (state_in n ts)) ≡ true → (is_held n ts ≡ true → suc (length (without_line n ts)) ≡ length ts)
+    go : (b : Bool) → same_line t.0 n ≡ b → is_some (cond b (Some t.1) (lookup n ts)) ≡ true → (is_held n ts ≡ true → suc (length (without_line n ts)) ≡ length ts)
         → suc (length (cond (not b) (t ∷ without_line n ts) (without_line n ts))) ≡ suc (length ts)
     go true e h ih = ap (λ us. suc (length us)) (without_none n ts (subst (λ k. is_held k ts ≡ false) (line_eq t.0 n e) o.0))
     go false e h ih = ap suc (ih h)
@@ -184,7 +186,7 @@ held-hit ways n l m ts short once held =
     le_of : {a b c : ℕ} → a ≡ b → b ≤ c → a ≤ c
     le_of e h = omega arith
 
-    go : (b : Bool) → same_line n l ≡ b → is_some (cond b (Some m) (state_in l (without_line n ts))) ≡ is_held l ts
+    go : (b : Bool) → same_line n l ≡ b → is_some (cond b (Some m) (lookup l (without_line n ts))) ≡ is_held l ts
     go true e = sym (subst (λ k. is_held k ts ≡ true) (line_eq n l e) held)
     go false e = held-without n l ts ∙ ap (λ b. not b && is_held l ts) e
 

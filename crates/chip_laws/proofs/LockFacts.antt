@@ -37,12 +37,6 @@ none_locked w skip n free = none_found n (λ i. not (skip i) && is_locked (w.sea
     go k below true e = refl
     go k below false e = free k below e
 
--- what the rules of entries say of locks, rollbacks and the number of acts
-abbrev pub RuledAt : Design → World → ℕ → ℕ → Option ℕ → Bool → Option Opening → Type 0
-RuledAt p w j n cause meets None = ⊥
-RuledAt p w j n cause meets (Some o) =
-    (n ≡ o.acts) × (opening_end p o ≡ cause) × ((b : ℕ) → cause ≡ Some b → is_conflict p o ≡ meets)
-
 abbrev pub SpecAt : Design → Option Opening → Type 0
 SpecAt p None = ⊥
 SpecAt p (Some o) = opening_end p o ≡ None

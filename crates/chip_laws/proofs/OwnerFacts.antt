@@ -2,6 +2,7 @@
 use Rattle.std.proofs.Common.{◌≡◌, ◌≢◌, ◌<◌, ℕ, zero, suc, Bool, true, false, List, [], ◌∷◌, refl, sym, ap, ◌∙◌, subst, ◌&&◌, cond, eqb, not, ◌⊎◌, inl, inr, Option, Some, None, map, take, is_some}
 use Rattle.std.specs.List.{filter}
 use Rattle.std.proofs.lemmas.Bool.{false≢true, true≢false, cond_both, eqb-true, ne_eqb, cases_Bool}
+use Rattle.set_assoc.specs.Entries.{lookup}
 use Rattle.conda_base.specs.declared.Line.{Line}
 use Rattle.schedule_log.specs.declared.entry.Entry.{Entry}
 use Rattle.schedule_log.specs.declared.entry.Entry.TheVariants.{Step, Waits, Idle, Held, Open, Lock, Spec, Commit, Back, Flush, Kern}
@@ -10,10 +11,10 @@ use Rattle.chip_laws.specs.Rules.{World, flush_line}
 use Rattle.chip_laws.specs.Worlds.{tags_after, start_world}
 use Rattle.conda_base.specs.declared.Mesi.{Mesi}
 use Rattle.conda_base.specs.declared.Mesi.TheVariants.{M, E, S}
-use Rattle.line_memory.specs.Tags.{Tag, Tags, state_in, without_line, cleaned_state, cleaned_at, Shape, set_of, held_state}
+use Rattle.line_memory.specs.Tags.{Tag, Tags, without_line, cleaned_state, cleaned_at, Shape, set_of, held_state}
 use Rattle.conda_base.specs.LineLists.{same_line}
 use Rattle.offload_calls.specs.LineUses.{LineUse}
-use Rattle.try_runs.proofs.LineFacts.{line_eq, same_line-refl}
+use Rattle.conda_base.proofs.LineListLemmas.{line_eq, same_line-refl}
 use Rattle.chip_laws.specs.Notes.{hart_use}
 use Rattle.line_memory.specs.Access.{is_held_elsewhere, put_front, shared_at, shared_line, loaded_state, list_beside_load, changed_set, after_load, after_store, cleaned_tag, after_lock}
 use Rattle.chip_laws.specs.Uses.{after_use, flush_after}
@@ -22,10 +23,10 @@ use Rattle.line_memory.proofs.BelowLemmas.{none_at}
 
 -- a list has the line, and has it in M or E
 abbrev pub is_held : Line → List Tag → Bool
-is_held l tags = is_some (state_in l tags)
+is_held l tags = is_some (lookup l tags)
 
 abbrev pub is_owned : Line → List Tag → Bool
-is_owned l tags = is_owner (state_in l tags)
+is_owned l tags = is_owner (lookup l tags)
 
 -- the list names no line twice
 abbrev pub AreOnce : List Tag → Type 0
@@ -49,19 +50,19 @@ less_self l ts = record { held = λ h. h; owned = λ h. h }
 less_cons : (l : Line) (t u : Tag) (ts us : List Tag) → t.0 ≡ u.0 → (is_owner (Some t.1) ≡ false → is_owner (Some u.1) ≡ false) → Less l ts us → Less l (t ∷ ts) (u ∷ us)
 less_cons l t u ts us same own h = record { held = held; owned = owned }
   where
-    go_held : (b : Bool) → is_some (cond b (Some t.1) (state_in l ts)) ≡ false → is_some (cond b (Some u.1) (state_in l us)) ≡ false
+    go_held : (b : Bool) → is_some (cond b (Some t.1) (lookup l ts)) ≡ false → is_some (cond b (Some u.1) (lookup l us)) ≡ false
     go_held true e = e
     go_held false e = h.held e
 
-    go_owned : (b : Bool) → is_owner (cond b (Some t.1) (state_in l ts)) ≡ false → is_owner (cond b (Some u.1) (state_in l us)) ≡ false
+    go_owned : (b : Bool) → is_owner (cond b (Some t.1) (lookup l ts)) ≡ false → is_owner (cond b (Some u.1) (lookup l us)) ≡ false
     go_owned true e = own e
     go_owned false e = h.owned e
 
     held : is_held l (t ∷ ts) ≡ false → is_held l (u ∷ us) ≡ false
-    held e = subst (λ k. is_some (cond (same_line k l) (Some u.1) (state_in l us)) ≡ false) same (go_held (same_line t.0 l) e)
+    held e = subst (λ k. is_some (cond (same_line k l) (Some u.1) (lookup l us)) ≡ false) same (go_held (same_line t.0 l) e)
 
     owned : is_owned l (t ∷ ts) ≡ false → is_owned l (u ∷ us) ≡ false
-    owned e = subst (λ k. is_owner (cond (same_line k l) (Some u.1) (state_in l us)) ≡ false) same (go_owned (same_line t.0 l) e)
+    owned e = subst (λ k. is_owner (cond (same_line k l) (Some u.1) (lookup l us)) ≡ false) same (go_owned (same_line t.0 l) e)
 
 -- an edit of entries that keeps lines and makes no owner
 pub less_map : (f : Tag → Tag) → ((t : Tag) → t.0 ≡ (f t).0) → ((t : Tag) → is_owner (Some t.1) ≡ false → is_owner (Some (f t).1) ≡ false)
@@ -75,12 +76,12 @@ filter_held q l [] h = refl
 filter_held q l (t ∷ ts) h =
     go (same_line t.0 l) refl h (filter_held q l ts)
   where
-    go : (b : Bool) → same_line t.0 l ≡ b → is_some (cond b (Some t.1) (state_in l ts)) ≡ false → (is_held l ts ≡ false → is_held l (filter q ts) ≡ false)
+    go : (b : Bool) → same_line t.0 l ≡ b → is_some (cond b (Some t.1) (lookup l ts)) ≡ false → (is_held l ts ≡ false → is_held l (filter q ts) ≡ false)
         → is_held l (cond (q t) (t ∷ filter q ts) (filter q ts)) ≡ false
     go true e h ih = absurd (true≢false h)
     go false e h ih =
         cond_both (q t) (t ∷ filter q ts) (filter q ts) (λ us. is_held l us ≡ false)
-        (λ _. subst (λ b. is_some (cond b (Some t.1) (state_in l (filter q ts))) ≡ false) (sym e) (ih h)) (λ _. ih h)
+        (λ _. subst (λ b. is_some (cond b (Some t.1) (lookup l (filter q ts))) ≡ false) (sym e) (ih h)) (λ _. ih h)
 
 not_held_not_owned : (o : Option Mesi) → is_some o ≡ false → is_owner o ≡ false
 not_held_not_owned None h = refl
@@ -90,17 +91,17 @@ filter_owned : (q : Tag → Bool) (l : Line) (ts : List Tag) → AreOnce ts → 
 filter_owned q l [] o h = refl
 filter_owned q l (t ∷ ts) o h = go (same_line t.0 l) refl h (filter_owned q l ts o.1)
   where
-    go : (b : Bool) → same_line t.0 l ≡ b → is_owner (cond b (Some t.1) (state_in l ts)) ≡ false → (is_owned l ts ≡ false → is_owned l (filter q ts) ≡ false)
+    go : (b : Bool) → same_line t.0 l ≡ b → is_owner (cond b (Some t.1) (lookup l ts)) ≡ false → (is_owned l ts ≡ false → is_owned l (filter q ts) ≡ false)
         → is_owned l (cond (q t) (t ∷ filter q ts) (filter q ts)) ≡ false
     go true e h ih =
         let at : t.0 ≡ l = line_eq t.0 l e in
         let rest : is_held l ts ≡ false = ap (λ k. is_held k ts) (sym at) ∙ o.0 in
         cond_both (q t) (t ∷ filter q ts) (filter q ts) (λ us. is_owned l us ≡ false)
-        (λ _. subst (λ b. is_owner (cond b (Some t.1) (state_in l (filter q ts))) ≡ false) (sym e) h)
-        (λ _. not_held_not_owned (state_in l (filter q ts)) (filter_held q l ts rest))
+        (λ _. subst (λ b. is_owner (cond b (Some t.1) (lookup l (filter q ts))) ≡ false) (sym e) h)
+        (λ _. not_held_not_owned (lookup l (filter q ts)) (filter_held q l ts rest))
     go false e h ih =
         cond_both (q t) (t ∷ filter q ts) (filter q ts) (λ us. is_owned l us ≡ false)
-        (λ _. subst (λ b. is_owner (cond b (Some t.1) (state_in l (filter q ts))) ≡ false) (sym e) (ih h)) (λ _. ih h)
+        (λ _. subst (λ b. is_owner (cond b (Some t.1) (lookup l (filter q ts))) ≡ false) (sym e) (ih h)) (λ _. ih h)
 
 pub less_filter : (q : Tag → Bool) (l : Line) (ts : List Tag) → AreOnce ts → Less l ts (filter q ts)
 less_filter q l ts o = record { held = filter_held q l ts; owned = filter_owned q l ts o }
@@ -136,7 +137,7 @@ without_it n (t ∷ ts) = go (same_line t.0 n) refl (without_it n ts)
   where
     go : (b : Bool) → same_line t.0 n ≡ b → is_held n (without_line n ts) ≡ false → is_held n (cond (not b) (t ∷ without_line n ts) (without_line n ts)) ≡ false
     go true e ih = ih
-    go false e ih = subst (λ b. is_some (cond b (Some t.1) (state_in n (without_line n ts))) ≡ false) (sym e) ih
+    go false e ih = subst (λ b. is_some (cond b (Some t.1) (lookup n (without_line n ts))) ≡ false) (sym e) ih
 
 once_front : (ways : ℕ) (n : Line) (m : Mesi) (ts : List Tag) → AreOnce ts → AreOnce (put_front ways n m ts)
 once_front ways n m ts o =
@@ -148,8 +149,8 @@ front_others ways n l m ts ne o =
     less_then l ts ((n, m) ∷ without_line n ts) (put_front ways n m ts)
     (less_then l ts (without_line n ts) ((n, m) ∷ without_line n ts) (less_filter (λ (t : Tag). not (same_line t.0 n)) l ts o)
     (record {
-      held = λ h. subst (λ b. is_some (cond b (Some m) (state_in l (without_line n ts))) ≡ false) (sym ne) h;
-      owned = λ h. subst (λ b. is_owner (cond b (Some m) (state_in l (without_line n ts))) ≡ false) (sym ne) h;
+      held = λ h. subst (λ b. is_some (cond b (Some m) (lookup l (without_line n ts))) ≡ false) (sym ne) h;
+      owned = λ h. subst (λ b. is_owner (cond b (Some m) (lookup l (without_line n ts))) ≡ false) (sym ne) h;
     }))
     (less_take ways l ((n, m) ∷ without_line n ts))
 
@@ -157,7 +158,7 @@ front_others ways n l m ts ne o =
 front_own : (ways : ℕ) (n : Line) (m : Mesi) (ts : List Tag) → is_owner (Some m) ≡ false → is_owned n (put_front ways n m ts) ≡ false
 front_own ways n m ts h =
     (less_take ways n ((n, m) ∷ without_line n ts)).owned
-    (subst (λ b. is_owner (cond b (Some m) (state_in n (without_line n ts))) ≡ false) (sym (same_line-refl n)) h)
+    (subst (λ b. is_owner (cond b (Some m) (lookup n (without_line n ts))) ≡ false) (sym (same_line-refl n)) h)
 
 pub share_line : (n : Line) (t : Tag) → t.0 ≡ (shared_at n t).0
 share_line n t = cond_both (same_line t.0 n) (t.0, S) t (λ (u : Tag). t.0 ≡ u.0) (λ _. refl) (λ _. refl)
@@ -183,8 +184,8 @@ shared_own n [] = refl
 shared_own n (t ∷ ts) = go (same_line t.0 n) refl (shared_own n ts)
   where
     go : (b : Bool) → same_line t.0 n ≡ b → is_owned n (shared_line n ts) ≡ false → is_owned n (cond b (t.0, S) t ∷ shared_line n ts) ≡ false
-    go true e ih = cond_both (same_line t.0 n) (Some S) (state_in n (shared_line n ts)) (λ o. is_owner o ≡ false) (λ _. refl) (λ _. ih)
-    go false e ih = subst (λ b. is_owner (cond b (Some t.1) (state_in n (shared_line n ts))) ≡ false) (sym e) ih
+    go true e ih = cond_both (same_line t.0 n) (Some S) (lookup n (shared_line n ts)) (λ o. is_owner o ≡ false) (λ _. refl) (λ _. ih)
+    go false e ih = subst (λ b. is_owner (cond b (Some t.1) (lookup n (shared_line n ts))) ≡ false) (sym e) ih
 
 -- ---- edits of all lists
 
@@ -257,14 +258,14 @@ store_owners c tags h n o =
     (λ _. without_it n (tags i set)))
     (λ k l below ne. by_line n l (λ m. is_owned m (without_line n (tags k set)) ≡ true → is_held m (put_front c.ways n M (tags h set)) ≡ false)
     (λ apart. alone_less l (tags k set) (tags h set) _ _ (without_less n l (tags k set) (o.once k set)) (front_others c.ways n l M (tags h set) apart (o.once h set)) (o.alone k h set l below ne))
-    (λ owned. absurd (false≢true (sym (not_held_not_owned (state_in n (without_line n (tags k set))) (without_it n (tags k set))) ∙ owned))))
+    (λ owned. absurd (false≢true (sym (not_held_not_owned (lookup n (without_line n (tags k set))) (without_it n (tags k set))) ∙ owned))))
     (λ k i l u ne. alone_less l (tags k set) (tags i set) _ _ (without_less n l (tags k set) (o.once k set)) (without_less n l (tags i set) (o.once i set)) (o.alone k i set l u ne))
   where
     set : ℕ
     set = set_of c n
 
 -- a held line in front is as it was
-front_same : (ways : ℕ) (n : Line) (m : Mesi) (ts : List Tag) → state_in n ts ≡ Some m → Less n ts (put_front ways n m ts)
+front_same : (ways : ℕ) (n : Line) (m : Mesi) (ts : List Tag) → lookup n ts ≡ Some m → Less n ts (put_front ways n m ts)
 front_same ways n m ts e = record {
   held = λ h. absurd (true≢false (sym (ap is_some e) ∙ h));
   owned = λ h. front_own ways n m ts (sym (ap is_owner e) ∙ h);

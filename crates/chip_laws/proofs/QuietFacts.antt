@@ -2,12 +2,11 @@
 use Rattle.std.proofs.Common.{◌≡◌, ◌+◌, ◌<◌, ◌≤◌, ℕ, Bool, true, false, List, [], ◌∷◌, ◌++◌, refl, sym, ap, ◌∙◌, subst, arith, ◌||◌, cond, eqb, not, ◌⊎◌, inl, inr, Option, Some, None}
 use Rattle.std.specs.List.{AllByRecursion, count_by}
 use Rattle.std.proofs.lemmas.List.Sums.{sum_by-cons}
-use Rattle.std.proofs.lemmas.Bool.{false≢true, true≢false, cond_both, cond-true, eq-eqb, ne_eqb, cases_eq}
+use Rattle.std.proofs.lemmas.Bool.{false≢true, cond_both, cond-true, eq-eqb, ne_eqb, cases_eq}
 use Rattle.conda_base.specs.declared.actor.Actor.{Actor}
 use Rattle.conda_base.specs.declared.actor.Actor.TheVariants as The
 use Rattle.schedule_log.specs.declared.entry.Entry.{Entry}
 use Rattle.schedule_log.specs.declared.entry.Entry.TheVariants.{Idle, Held, Lock, Spec, Commit, Back}
-use Rattle.offload_calls.specs.declared.status.CoreStatus.{CoreStatus}
 use Rattle.offload_calls.specs.declared.status.CoreStatus.TheVariants as Core_is
 use Rattle.offload_calls.specs.HartAct.{hart_runs}
 use Rattle.offload_calls.specs.CoreActs.{core_runs}
@@ -62,9 +61,6 @@ held p w j h a ne =
 -- a locked try holds all others
 holds_others : (w : World) (j n : ℕ) (skip : ℕ → Bool) → j < n → skip j ≡ false → LockedAt (w.seats j).opening → is_locked_below w skip n ≡ false → ⊥
 holds_others w j n skip u s h e = false≢true (sym (not_locked w skip n j e u s) ∙ locked_is (w.seats j).opening h)
-
-not_run : (s : CoreStatus) → s ≡ Core_is.Run → not (core_runs s) ≡ true → ⊥
-not_run s e h = true≢false (sym h ∙ ap (λ x. not (core_runs x)) e)
 
 spec_stays : (p : Design) (w : World) (j : ℕ) → LockedAt (w.seats j).opening → Stays p w j (Spec j)
 spec_stays p w j h =

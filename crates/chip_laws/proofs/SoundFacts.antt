@@ -4,10 +4,11 @@ use Rattle.std.specs.List.{All, AllPairs}
 use Rattle.std.proofs.lemmas.Bool.{false≢true, true≢false, cond-true, eq-eqb, ne_eqb, cases_eq}
 use Rattle.std.proofs.lemmas.List.Elements.{All-nil, All-cons}
 use Rattle.std.proofs.lemmas.List.Kept.{AllPairs-cons}
+use Rattle.set_assoc.specs.Entries.{lookup}
 use Rattle.conda_base.specs.declared.Line.{Line}
 use Rattle.conda_base.specs.declared.Mesi.{Mesi}
 use Rattle.conda_base.specs.declared.actor.Actor.{Actor}
-use Rattle.line_memory.specs.Tags.{Tag, Tags, Shape, set_of, held_state, state_in}
+use Rattle.line_memory.specs.Tags.{Tag, Tags, Shape, set_of, held_state}
 use Rattle.line_memory.specs.Owners.{HasSingleOwners}
 use Rattle.line_memory.proofs.MemberLemmas.{pairs_nil}
 use Rattle.chip_laws.specs.Design.{Design, hart_shape}
@@ -31,7 +32,7 @@ apart_from : (l : Line) (tags : List Tag) → is_held l tags ≡ false → All (
 apart_from l [] h = All-nil (λ (tag : Tag). l.0 ≢ tag.0.0)
 apart_from l (tag ∷ tags) h = go (eqb tag.0.0 l.0) refl h (apart_from l tags)
   where
-    go : (b : Bool) → eqb tag.0.0 l.0 ≡ b → is_some (cond b (Some tag.1) (state_in l tags)) ≡ false
+    go : (b : Bool) → eqb tag.0.0 l.0 ≡ b → is_some (cond b (Some tag.1) (lookup l tags)) ≡ false
         → (is_held l tags ≡ false → All (λ (tag : Tag). l.0 ≢ tag.0.0) tags) → All (λ (tag : Tag). l.0 ≢ tag.0.0) (tag ∷ tags)
     go true e h later = absurd (true≢false h)
     go false e h later =
@@ -54,13 +55,13 @@ in_set shape set (tag ∷ tags) none =
     here : ((set ≡ set_of shape tag.0) ⊎ (set ≡ set_of shape tag.0 → ⊥)) → set_of shape tag.0 ≡ set
     here (inl e) = sym e
     here (inr ne) =
-        absurd (true≢false (sym (ap is_some (cond-true (eqb tag.0.0 tag.0.0) (Some tag.1) (state_in tag.0 tags) (eq-eqb tag.0.0 tag.0.0 refl)))
+        absurd (true≢false (sym (ap is_some (cond-true (eqb tag.0.0 tag.0.0) (Some tag.1) (lookup tag.0 tags) (eq-eqb tag.0.0 tag.0.0 refl)))
         ∙ none tag.0 (ne_eqb set (set_of shape tag.0) ne)))
 
     rest : (l : Line) → is_held l (tag ∷ tags) ≡ false → is_held l tags ≡ false
     rest l = go (eqb tag.0.0 l.0)
       where
-        go : (b : Bool) → is_some (cond b (Some tag.1) (state_in l tags)) ≡ false → is_held l tags ≡ false
+        go : (b : Bool) → is_some (cond b (Some tag.1) (lookup l tags)) ≡ false → is_held l tags ≡ false
         go true h = absurd (true≢false h)
         go false h = h
 

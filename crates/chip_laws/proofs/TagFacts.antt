@@ -2,13 +2,14 @@
 use Rattle.std.proofs.Common.{◌≡◌, ◌<◌, ℕ, zero, suc, Bool, true, false, List, [], ◌∷◌, refl, sym, ◌∙◌, subst, arith, ◌&&◌, cond, eqb, not, ◌⊎◌, inl, inr, Option, Some, None, map, take}
 use Rattle.std.specs.List.{filter}
 use Rattle.std.proofs.lemmas.Bool.{cond_both, eqb-true, or_parts, or_from, cases_eq}
+use Rattle.set_assoc.specs.Entries.{lookup}
 use Rattle.conda_base.specs.declared.Line.{Line}
 use Rattle.conda_base.specs.declared.Mesi.{Mesi}
 use Rattle.conda_base.specs.declared.Mesi.TheVariants.{M, E, S}
-use Rattle.line_memory.specs.Tags.{Tag, Tags, is_modified, state_in, without_line, cleaned_state, cleaned_at, modified, each_below, Shape, set_of, held_state, dirty_lines}
+use Rattle.line_memory.specs.Tags.{Tag, Tags, is_modified, without_line, cleaned_state, cleaned_at, modified, each_below, Shape, set_of, held_state, dirty_lines}
 use Rattle.conda_base.specs.LineLists.{names, same_line, list_of}
 use Rattle.offload_calls.specs.LineUses.{LineUse, stored_line}
-use Rattle.try_runs.proofs.LineFacts.{line_eq, names-append}
+use Rattle.conda_base.proofs.LineListLemmas.{line_eq, names-append}
 use Rattle.line_memory.specs.Access.{is_held_elsewhere, put_front, shared_at, loaded_state, list_beside_load, after_load, after_store, after_commit, cleaned_tag, after_lock}
 use Rattle.chip_laws.specs.Uses.{after_use, flush_after}
 
@@ -96,14 +97,14 @@ all_clean l [] = refl
 all_clean l (t ∷ ts) = front l (cleaned_tag t) (map cleaned_tag ts) (cleaned l t.1 t.0) (all_clean l ts)
 
 -- what a list holds in M is an M of it
-held_m : (l n : Line) (ts : List Tag) (m : Mesi) → state_in n ts ≡ Some m → NoM l ts → NotM l (n, m)
+held_m : (l n : Line) (ts : List Tag) (m : Mesi) → lookup n ts ≡ Some m → NoM l ts → NotM l (n, m)
 held_m l n [] m e h = absurd (let k : None ≡ Some m = e in cc)
 held_m l n (t ∷ ts) m e h =
     let p : NotM l t × NoM l ts = front_parts l t ts h in
     go (same_line t.0 n) refl e p (held_m l n ts m)
   where
-    go : (b : Bool) → same_line t.0 n ≡ b → cond b (Some t.1) (state_in n ts) ≡ Some m → NotM l t × NoM l ts
-        → (state_in n ts ≡ Some m → NoM l ts → NotM l (n, m)) → NotM l (n, m)
+    go : (b : Bool) → same_line t.0 n ≡ b → cond b (Some t.1) (lookup n ts) ≡ Some m → NotM l t × NoM l ts
+        → (lookup n ts ≡ Some m → NoM l ts → NotM l (n, m)) → NotM l (n, m)
     go true d e p ih =
         let same : t.1 ≡ m = cc in
         let at : t.0 ≡ n = line_eq t.0 n d in

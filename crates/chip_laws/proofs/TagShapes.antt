@@ -13,7 +13,7 @@ use Rattle.conda_base.specs.declared.Mesi.TheVariants.{M}
 use Rattle.line_memory.specs.Tags.{Tag, Tags, without_line, cleaned_at, Shape, set_of, held_state}
 use Rattle.conda_base.specs.LineLists.{names, same_line}
 use Rattle.offload_calls.specs.LineUses.{LineUse}
-use Rattle.try_runs.proofs.LineFacts.{line_eq}
+use Rattle.conda_base.proofs.LineListLemmas.{line_eq}
 use Rattle.chip_laws.specs.Notes.{hart_use}
 use Rattle.std.proofs.Math.Nat.{min-le_left}
 use Rattle.std.proofs.lemmas.List.{length-take, length-map}

@@ -2,6 +2,7 @@
 use Rattle.std.proofs.Common.{◌≡◌, ◌+◌, ◌<◌, ◌≤◌, ℕ, zero, suc, Bool, true, false, List, [], ◌∷◌, ◌++◌, length, refl, sym, ap, ◌∙◌, subst, arith, ◌||◌, cond, eqb, leb, not, ◌⊎◌, inl, inr, Option, Some, None, take, is_some}
 use Rattle.std.specs.List.{AllByRecursion, filter}
 use Rattle.std.proofs.lemmas.Bool.{false≢true, true≢false, cond_both, eqb-true, eqb-false, eq-eqb, ne_eqb, cases_eq, false_from_ne_true, leb-true, leb-false}
+use Rattle.set_assoc.specs.Entries.{lookup}
 use Rattle.conda_base.specs.declared.Line.{Line}
 use Rattle.conda_base.specs.declared.actor.Actor.{Actor}
 use Rattle.conda_base.specs.declared.actor.Actor.TheVariants as The
@@ -14,10 +15,11 @@ use Rattle.chip_laws.specs.Rules.{World, Opening, opening_end, writes_of, is_con
 use Rattle.chip_laws.specs.Worlds.{tags_after, happens, start_world, world_from, world}
 use Rattle.conda_base.specs.declared.Mesi.{Mesi}
 use Rattle.conda_base.specs.declared.Mesi.TheVariants.{M, E, S}
-use Rattle.line_memory.specs.Tags.{Tag, Tags, state_in, without_line, cleaned_at, Shape, set_of, held_state, each_below}
+use Rattle.line_memory.specs.Tags.{Tag, Tags, without_line, cleaned_at, Shape, set_of, held_state, each_below}
 use Rattle.conda_base.specs.LineLists.{names, same_line, list_of}
 use Rattle.offload_calls.specs.LineUses.{LineUse}
-use Rattle.try_runs.proofs.LineFacts.{line_eq, same_line-eq, AreDistinct}
+use Rattle.conda_base.proofs.LineListLemmas.{line_eq, same_line-eq}
+use Rattle.try_runs.proofs.LineFacts.{AreDistinct}
 use Rattle.try_runs.specs.Fills.{corefill_notes}
 use Rattle.chip_laws.specs.Notes.{hart_use, filled_of, notes_of}
 use Rattle.std.proofs.Math.Seq.{take_all}
@@ -401,7 +403,7 @@ named-absent n lines (t ∷ ts) out = go (same_line t.0 n) refl out (named-absen
     flip : same_line t.0 n ≡ false → same_line n t.0 ≡ false
     flip h = false_from_ne_true _ (λ e. false≢true (sym h ∙ same_line-eq t.0 n (sym (line_eq n t.0 e))))
 
-    go : (b : Bool) → same_line t.0 n ≡ b → is_some (cond b (Some t.1) (state_in n ts)) ≡ false → (is_held n ts ≡ false → named (n ∷ lines) ts ≡ named lines ts)
+    go : (b : Bool) → same_line t.0 n ≡ b → is_some (cond b (Some t.1) (lookup n ts)) ≡ false → (is_held n ts ≡ false → named (n ∷ lines) ts ≡ named lines ts)
         → length (cond (same_line n t.0 || names lines t.0) (t ∷ filter (named_in (n ∷ lines)) ts) (filter (named_in (n ∷ lines)) ts))
         ≡ length (cond (names lines t.0) (t ∷ filter (named_in lines) ts) (filter (named_in lines) ts))
     go true e out ih = absurd (true≢false out)
@@ -420,7 +422,7 @@ named-cons n lines (t ∷ ts) o out = go (same_line t.0 n) refl (named-cons n li
   where
     go : (b : Bool) → same_line t.0 n ≡ b → named (n ∷ lines) ts ≡ one (is_held n ts) + named lines ts
         → length (cond (same_line n t.0 || names lines t.0) (t ∷ filter (named_in (n ∷ lines)) ts) (filter (named_in (n ∷ lines)) ts))
-        ≡ one (is_some (cond b (Some t.1) (state_in n ts))) + length (cond (names lines t.0) (t ∷ filter (named_in lines) ts) (filter (named_in lines) ts))
+        ≡ one (is_some (cond b (Some t.1) (lookup n ts))) + length (cond (names lines t.0) (t ∷ filter (named_in lines) ts) (filter (named_in lines) ts))
     go true e ih =
         let at : t.0 ≡ n = line_eq t.0 n e in
         let absent : is_held n ts ≡ false = subst (λ k. is_held k ts ≡ false) at o.0 in

@@ -16,7 +16,7 @@ use Rattle.offload_calls.specs.Stores.{has}
 use Rattle.offload_calls.specs.CoreActs.{outside, written}
 use Rattle.conda_base.specs.LineLists.{names, line_at, same_line}
 use Rattle.try_runs.specs.Serial.{AreFresh, IsSerial, try_in}
-use Rattle.try_runs.proofs.LineFacts.{names-append}
+use Rattle.conda_base.proofs.LineListLemmas.{names-append}
 use Rattle.try_runs.proofs.HartLines.{step_addresses}
 use Rattle.try_runs.proofs.Serial.{serial}
 use Rattle.chip_laws.specs.Untouched.{stores_of, outside_at, stores_at, AlwaysUntouched}

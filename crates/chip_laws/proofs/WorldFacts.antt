@@ -17,7 +17,7 @@ use Rattle.conda_base.specs.LineLists.{names}
 use Rattle.try_runs.specs.Tries.{Try, writes}
 use Rattle.try_runs.specs.Fills.{try_run}
 use Rattle.try_runs.specs.Serial.{AreFresh, try_in}
-use Rattle.try_runs.proofs.LineFacts.{names-append}
+use Rattle.conda_base.proofs.LineListLemmas.{names-append}
 use Rattle.try_runs.proofs.HartLines.{step_lines}
 use Rattle.try_runs.proofs.PortionFacts.{PortionFits, portion-fits}
 use Rattle.chip_laws.specs.Design.{Design, setup_of, hart_shape}

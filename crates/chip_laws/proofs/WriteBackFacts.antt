@@ -2,6 +2,7 @@
 use Rattle.std.proofs.Common.{◌≡◌, ◌<◌, ℕ, zero, suc, Bool, true, false, List, [], ◌∷◌, ◌++◌, refl, sym, ap, ◌∙◌, subst, arith, cond, eqb, ltb, not, ◌⊎◌, inl, inr, Option, Some, None, is_some}
 use Rattle.std.specs.List.{find}
 use Rattle.std.proofs.lemmas.Bool.{false≢true, true≢false, cond_both, eqb-true, eq-eqb, or_cases, or_left, or_right, and_parts, cases_Bool}
+use Rattle.set_assoc.specs.Entries.{lookup}
 use Rattle.conda_base.specs.declared.Line.{Line}
 use Rattle.conda_base.specs.declared.Mesi.{Mesi}
 use Rattle.conda_base.specs.declared.Mesi.TheVariants.{M, E, S}
@@ -11,14 +12,14 @@ use Rattle.conda_base.specs.LineLists.{names, same_line, list_of}
 use Rattle.schedule_log.specs.declared.entry.Entry.{Entry}
 use Rattle.schedule_log.specs.declared.entry.Entry.TheVariants.{Commit, Back, Flush}
 use Rattle.traffic_trace.specs.declared.note.Kind.TheVariants as Kind_is
-use Rattle.line_memory.specs.Tags.{Tag, Tags, Shape, set_of, held_state, state_in, modified, is_modified, each_below, dirty_lines}
+use Rattle.line_memory.specs.Tags.{Tag, Tags, Shape, set_of, held_state, modified, is_modified, each_below, dirty_lines}
 use Rattle.line_memory.specs.Notes.{note_of, back_notes, flush_notes, flushes_notes}
 use Rattle.line_memory.specs.Owners.{is_owner}
 use Rattle.line_memory.proofs.MemberLemmas.{each_one}
 use Rattle.offload_calls.specs.HartAct.{hart_runs}
 use Rattle.offload_calls.specs.CoreActs.{core_runs}
 use Rattle.bloom_sig.specs.Images.{is_member_of}
-use Rattle.try_runs.proofs.LineFacts.{line_eq, names-append}
+use Rattle.conda_base.proofs.LineListLemmas.{line_eq, names-append}
 use Rattle.chip_laws.specs.Design.{Design, hart_shape}
 use Rattle.chip_laws.specs.Rules.{World, Opening, opening_end, is_conflict, is_locked_below, dirty_of, flush_line, is_flushing, ruling, core_entry, next}
 use Rattle.chip_laws.specs.Notes.{notes_of}
@@ -53,7 +54,7 @@ modified_held l (tag ∷ tags) h = go (same_line tag.0 l) refl (modified_held l 
         there (inr rest) = rest
     later false h other = h
 
-    go : (b : Bool) → same_line tag.0 l ≡ b → (names (modified tags) l ≡ true → is_held l tags ≡ true) → is_some (cond b (Some tag.1) (state_in l tags)) ≡ true
+    go : (b : Bool) → same_line tag.0 l ≡ b → (names (modified tags) l ≡ true → is_held l tags ≡ true) → is_some (cond b (Some tag.1) (lookup l tags)) ≡ true
     go true e rest = refl
     go false e rest = rest (later (is_modified tag.1) h e)
 
@@ -62,7 +63,7 @@ in_m M h = refl
 in_m E h = absurd (false≢true h)
 in_m S h = absurd (false≢true h)
 
-modified_state : (l : Line) (tags : List Tag) → AreOnce tags → names (modified tags) l ≡ true → state_in l tags ≡ Some M
+modified_state : (l : Line) (tags : List Tag) → AreOnce tags → names (modified tags) l ≡ true → lookup l tags ≡ Some M
 modified_state l [] once h = absurd (false≢true h)
 modified_state l (tag ∷ tags) once h = go (same_line tag.0 l) refl (is_modified tag.1) refl h (modified_state l tags once.1)
   where
@@ -74,7 +75,7 @@ modified_state l (tag ∷ tags) once h = go (same_line tag.0 l) refl (is_modifie
     apart other (inr rest) = rest
 
     go : (b : Bool) → same_line tag.0 l ≡ b → (m : Bool) → is_modified tag.1 ≡ m → names (cond m (tag.0 ∷ modified tags) (modified tags)) l ≡ true
-        → (names (modified tags) l ≡ true → state_in l tags ≡ Some M) → cond b (Some tag.1) (state_in l tags) ≡ Some M
+        → (names (modified tags) l ≡ true → lookup l tags ≡ Some M) → cond b (Some tag.1) (lookup l tags) ≡ Some M
     go true e true is_m h later = ap Some (in_m tag.1 is_m)
     go true e false is_m h later = absurd (none_later e h)
     go false e true is_m h later = later (apart e (or_cases (same_line tag.0 l) (names (modified tags) l) h))
@@ -88,11 +89,11 @@ owner_of shape tags l fit dirty =
     let found = named_below shape.sets (λ s. modified (tags holder.0 s)) l holder.2 in
     (holder.0, holder.1, at_set holder.0 found.0 (modified_state l (tags holder.0 found.0) (fit.owners.once holder.0 found.0) found.2))
   where
-    at_set : (h s : ℕ) → state_in l (tags h s) ≡ Some M → held_state shape tags h l ≡ Some M
+    at_set : (h s : ℕ) → lookup l (tags h s) ≡ Some M → held_state shape tags h l ≡ Some M
     at_set h s e = go (cases_Bool (eqb s (set_of shape l)))
       where
         go : (eqb s (set_of shape l) ≡ true) ⊎ (eqb s (set_of shape l) ≡ false) → held_state shape tags h l ≡ Some M
-        go (inl same) = ap (λ i. state_in l (tags h i)) (sym (eqb-true s (set_of shape l) same)) ∙ e
+        go (inl same) = ap (λ i. lookup l (tags h i)) (sym (eqb-true s (set_of shape l) same)) ∙ e
         go (inr other) = absurd (true≢false (sym (ap is_some e) ∙ fit.placed h s l other))
 
 -- ---- the notes of a flush

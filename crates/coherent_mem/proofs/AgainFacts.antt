@@ -2,12 +2,13 @@
 use Rattle.std.proofs.Common.{◌≡◌, ◌≢◌, ℕ, zero, suc, ◌<◌, ⊎_elim, Bool, true, false, ◌&&◌, List, [], ◌∷◌, Option, Some, None, length, take, eqb, sym, ap, subst, ◌∙◌, refl, arith}
 use Rattle.std.proofs.Math.Path.{fun_ext}
 use Rattle.std.proofs.lemmas.Bool.{cases_Bool, cases_eq, eq-eqb}
+use Rattle.set_assoc.specs.Entries.{lookup}
 use Rattle.conda_base.specs.LineLists.{names, line_at}
 use Rattle.conda_base.specs.Lines.{IsLineOf, line_number}
 use Rattle.conda_base.specs.declared.Line.{Line}
 use Rattle.conda_base.specs.declared.Mesi.{Mesi}
 use Rattle.conda_base.specs.declared.Mesi.TheVariants.{M}
-use Rattle.line_memory.specs.Tags.{dirty_lines, Tag, Tags, state_in, without_line, Shape, set_of, some_below, held_state, is_in_m}
+use Rattle.line_memory.specs.Tags.{dirty_lines, Tag, Tags, without_line, Shape, set_of, some_below, held_state, is_in_m}
 use Rattle.line_memory.specs.Backing.{dirty_in, HasSameNumbers, IsBacking, BackingView, IsInRange, shape_of}
 use Rattle.line_memory.specs.Access.{put_front, after_store}
 use Rattle.line_memory.specs.Notes.{access_notes, store_notes}
@@ -15,8 +16,8 @@ use Rattle.line_memory.specs.Copies.{has_same_owner}
 use Rattle.coherent_mem.specs.Again.{IsAtomic, IsStoredAgain}
 use Rattle.coherent_mem.specs.Steps.{StepsTo}
 use Rattle.coherent_mem.proofs.DirtyFacts.{dirty_named}
-use Rattle.coherent_mem.proofs.AloneFacts.{state_in-without}
-use Rattle.coherent_mem.proofs.MissFacts.{state_in-take, without_line-none}
+use Rattle.coherent_mem.proofs.AloneFacts.{lookup-without_line}
+use Rattle.coherent_mem.proofs.MissFacts.{lookup-take, without_line-none}
 use Rattle.coherent_mem.proofs.CacheFacts.{test_off}
 use Rattle.coherent_mem.proofs.CopyFacts.{numbers_twice}
 
@@ -36,7 +37,7 @@ take_again (suc n) (x ∷ xs) = ap (λ ys. x ∷ ys) (take_again n xs)
 -- a cut list without the line is without it
 without_cut : (l : Line) (n : ℕ) (tags : List Tag) → take n (without_line l (take n (without_line l tags))) ≡ take n (without_line l tags)
 without_cut l n tags =
-    let none : state_in l (take n (without_line l tags)) ≡ None = state_in-take l n (without_line l tags) (state_in-without l tags) in
+    let none : lookup l (take n (without_line l tags)) ≡ None = lookup-take l n (without_line l tags) (lookup-without_line l tags) in
     ap (λ ts. take n ts) (without_line-none l (take n (without_line l tags)) none) ∙ take_again n (without_line l tags)
 
 pub fronted_twice : (c : Shape) (l : Line) (tags : List Tag) → put_front c.ways l M (put_front c.ways l M tags) ≡ put_front c.ways l M tags
@@ -57,11 +58,11 @@ stored_again c tags h l some = record {
       (cases_eq s (set_of c l))));
   no_notes =
       let list : after_store c tags h l h (set_of c l) ≡ put_front c.ways l M (tags h (set_of c l)) = rw (eq-eqb (set_of c l) (set_of c l) refl, eq-eqb h h refl) refl in
-      let state : held_state c (after_store c tags h l) h l ≡ Some M = ap (λ (ts : List Tag). state_in l ts) list ∙ front c.ways (tags h (set_of c l)) some in
+      let state : held_state c (after_store c tags h l) h l ≡ Some M = ap (λ (ts : List Tag). lookup l ts) list ∙ front c.ways (tags h (set_of c l)) some in
       ap (λ (o : Option Mesi). store_notes c (after_store c tags h l) h l o) state;
 }
   where
-    front : (n : ℕ) (ts : List Tag) → 0 < n → state_in l (take n ((l, M) ∷ without_line l ts)) ≡ Some M
+    front : (n : ℕ) (ts : List Tag) → 0 < n → lookup l (take n ((l, M) ∷ without_line l ts)) ≡ Some M
     front zero ts is = absurd (omega arith)
     front (suc n) ts is = rw (eq-eqb l.0 l.0 refl) refl
 

@@ -6,6 +6,7 @@ use Rattle.std.proofs.lemmas.List.{get_or_past}
 use Rattle.std.proofs.lemmas.Bool.{cases_eq, cases_Bool, cases_lt, eq-eqb, lt-ltb, le-ltb}
 use Rattle.std.proofs.Math.Path.{fun_ext}
 use Rattle.std.specs.List.{slice_get}
+use Rattle.set_assoc.specs.Entries.{lookup}
 use Rattle.conda_base.specs.declared.Line.{Line}
 use Rattle.conda_base.specs.declared.Mesi.{Mesi}
 use Rattle.conda_base.specs.declared.Mesi.TheVariants.{M, E, S}
@@ -17,7 +18,7 @@ use Rattle.traffic_trace.specs.declared.note.Note.{Note}
 use Rattle.traffic_trace.specs.declared.note.Kind.TheVariants.{Fill}
 use Rattle.line_memory.specs.Notes.{note_of, all_noted, access_notes, store_notes}
 use Rattle.line_memory.specs.Memory.{Memory, IsIn, line_of}
-use Rattle.line_memory.specs.Tags.{Tag, without_line, held_state, state_in, is_in_m}
+use Rattle.line_memory.specs.Tags.{Tag, without_line, held_state, is_in_m}
 use Rattle.line_memory.specs.Backing.{view_of, HasSameNumbers, shape_of, copy_of}
 use Rattle.line_memory.proofs.BelowLemmas.{none_found, some_exists, some_found}
 use Rattle.line_memory.specs.Access.{put_front, after_store}
@@ -34,7 +35,7 @@ use Rattle.coherent_mem.proofs.ViewFacts.{length_view}
 use Rattle.coherent_mem.proofs.DirtyFacts.{copy_next, follows, is_dirty, is_m}
 use Rattle.coherent_mem.proofs.CoherentFacts.{coherent}
 use Rattle.coherent_mem.proofs.CopyFacts.{numbers_twice, quiet_twice, quiet_same, noted_twice, clean_copy, not_dirty, range_new, range_of}
-use Rattle.coherent_mem.proofs.MissFacts.{cut, IsRoomy, room_states, no_content, state_in-take, without_line-none}
+use Rattle.coherent_mem.proofs.MissFacts.{cut, IsRoomy, room_states, no_content, lookup-take, without_line-none}
 use Rattle.coherent_mem.proofs.HitFacts.{front_whole}
 use Rattle.coherent_mem.proofs.PutFacts.{IsPut}
 use Rattle.coherent_mem.proofs.MoveFacts.{state_held, read_cache}
@@ -71,12 +72,12 @@ alone_owner p h l a are at owns =
 pub tags_past : (p : Parts) (k s : ℕ) → length p.caches ≤ k → (shown p).tags k s ≡ []
 tags_past p k s past = ap (λ (c : Contents). tags_of c s) (get_or_past p.caches k (empty 0 0 0) past)
 
-pub state_in-without : (l : Line) (tags : List Tag) → state_in l (without_line l tags) ≡ None
-state_in-without l [] = refl
-state_in-without l (tag ∷ tags) =
+pub lookup-without_line : (l : Line) (tags : List Tag) → lookup l (without_line l tags) ≡ None
+lookup-without_line l [] = refl
+lookup-without_line l (tag ∷ tags) =
     ⊎_elim
-    (λ (on : eqb tag.0.0 l.0 ≡ true). rw on (state_in-without l tags))
-    (λ (off : eqb tag.0.0 l.0 ≡ false). rw off (rw off (state_in-without l tags)))
+    (λ (on : eqb tag.0.0 l.0 ≡ true). rw on (lookup-without_line l tags))
+    (λ (off : eqb tag.0.0 l.0 ≡ false). rw off (rw off (lookup-without_line l tags)))
     (cases_Bool (eqb tag.0.0 l.0))
 
 -- the tags of the others, once all of them have lost the line
@@ -103,14 +104,14 @@ pub dropped_states : (p q : Parts) (h : ℕ) (l : Line) → IsDropped h l (lengt
 dropped_states p q h l is k apart =
     let n : ℕ = l.0 % p.sets in
     let list : (shown q).tags k n ≡ without_line l ((shown p).tags k n) = dropped_others p q h l is k n apart ∙ rw (eq-eqb n n refl) refl in
-    ap (λ (m : ℕ). state_in l ((shown q).tags k (l.0 % m))) is.numbers.sets ∙ ap (λ (ts : List Tag). state_in l ts) list ∙ state_in-without l ((shown p).tags k n)
+    ap (λ (m : ℕ). lookup l ((shown q).tags k (l.0 % m))) is.numbers.sets ∙ ap (λ (ts : List Tag). lookup l ts) list ∙ lookup-without_line l ((shown p).tags k n)
 
 pub dropped_held : (p q : Parts) (h : ℕ) (l : Line) → IsDropped h l (length p.caches) p q → (k : ℕ) → k ≢ h → held q l k ≡ None
 dropped_held p q h l is k apart = no_content (held q l k) (sym (state_shown q is.are l k) ∙ dropped_states p q h l is k apart)
 
 pub dropped_state : (p q : Parts) (h : ℕ) (l : Line) (n : ℕ) → IsDropped h l n p q → held_state (shape_of (shown q)) (shown q).tags h l ≡ held_state (shape_of (shown p)) (shown p).tags h l
 dropped_state p q h l n is =
-    ap (λ (m : ℕ). state_in l ((shown q).tags h (l.0 % m))) is.numbers.sets ∙ ap (λ (ts : List Tag). state_in l ts) (dropped_own p q h l n is (l.0 % p.sets))
+    ap (λ (m : ℕ). lookup l ((shown q).tags h (l.0 % m))) is.numbers.sets ∙ ap (λ (ts : List Tag). lookup l ts) (dropped_own p q h l n is (l.0 % p.sets))
 
 -- a sharer is alone once all others have lost the line
 pub alone_sharer : (p q : Parts) (h : ℕ) (l : Line) (a : Content) → AreParts p → held p l h ≡ Some a → a.state ≡ S → IsDropped h l (length p.caches) p q → IsAlone h l p q
@@ -172,21 +173,21 @@ alone_filled p q r u h l are absent dropped room is =
     let u_list : list_at (shown u) h l ≡ (l, E) ∷ take (p.ways - 1) (list_at (shown p) h l) =
     ap (λ (m : ℕ). (shown u).tags h (l.0 % m)) u_sets ∙ (rw self_h at (rw self_n at (u_tags h n))) in
     let cut_none : without_line l (take (p.ways - 1) (list_at (shown p) h l)) ≡ take (p.ways - 1) (list_at (shown p) h l) =
-    without_line-none l (take (p.ways - 1) (list_at (shown p) h l)) (state_in-take l (p.ways - 1) (list_at (shown p) h l) none) in
+    without_line-none l (take (p.ways - 1) (list_at (shown p) h l)) (lookup-take l (p.ways - 1) (list_at (shown p) h l) none) in
     let on : eqb l.0 l.0 ≡ true = eq-eqb l.0 l.0 refl in
     let u_states : (k : ℕ) → k ≢ h → held_state (shape_of (shown u)) (shown u).tags k l ≡ None =
     λ k apart.
     let none_q : held_state (shape_of (shown q)) (shown q).tags h l ≡ None = dropped_state p q h l (length p.caches) dropped ∙ none in
     let in_r : held_state (shape_of (shown r)) (shown r).tags k l ≡ None = room_states q r h l room none_q k ∙ dropped_states p q h l dropped k apart in
     let list : (shown u).tags k n ≡ (shown r).tags k n = u_tags k n ∙ rw (self_n, test_off k h apart) refl in
-    ap (λ (m : ℕ). state_in l ((shown u).tags k (l.0 % m))) u_sets ∙ ap (λ (ts : List Tag). state_in l ts) list ∙
-    ap (λ (m : ℕ). state_in l ((shown r).tags k (l.0 % m))) (sym r_sets) ∙ in_r in
+    ap (λ (m : ℕ). lookup l ((shown u).tags k (l.0 % m))) u_sets ∙ ap (λ (ts : List Tag). lookup l ts) list ∙
+    ap (λ (m : ℕ). lookup l ((shown r).tags k (l.0 % m))) (sym r_sets) ∙ in_r in
     record {
       numbers = numbers_twice (shown p) (shown r) (shown u) (numbers_twice (shown p) (shown q) (shown r) dropped.numbers room.numbers) is.edits.numbers;
       view = is.edits.view ∙ room.view ∙ dropped.view;
       quiet = quiet_twice (shown p) (shown r) (shown u) (quiet_twice (shown p) (shown q) (shown r) dropped.quiet room.quiet) is.quiet;
       are = is.are;
-      here = ap (λ (ts : List Tag). is_some (state_in l ts)) u_list ∙ rw on refl;
+      here = ap (λ (ts : List Tag). is_some (lookup l ts)) u_list ∙ rw on refl;
       alone = λ k apart. no_content (held u l k) (sym (state_shown u is.are l k) ∙ u_states k apart);
       front = ap (λ (ts : List Tag). (l, M) ∷ without_line l ts) u_list ∙ rw on (ap (λ (ts : List Tag). (l, M) ∷ ts) cut_none) ∙
           sym (ap (λ (ts : List Tag). take p.ways ((l, M) ∷ ts)) (without_line-none l (list_at (shown p) h l) none) ∙ cut p.ways some (l, M) (list_at (shown p) h l));
@@ -242,7 +243,7 @@ alone_copies p u t h l bytes are inside there alone put a within =
     let memory : (b : Line) → copy_of (shown t) b ≡ copy_of (shown u) b = λ b. ap (λ (m : Memory). line_of m b) put.memory in
     let tested : ℕ → Line → Bool = λ k b. is_in_m (held_state (shape_of (shown t)) (shown p).tags k b) && is_in_m (held_state (shape_of (shown t)) (shown t).tags k b) in
     let at_p : (b : Line) (k : ℕ) → held_state (shape_of (shown t)) (shown p).tags k b ≡ held_state (shape_of (shown p)) (shown p).tags k b =
-    λ b k. ap (λ (n : ℕ). state_in b ((shown p).tags k (b.0 % n))) sets in
+    λ b k. ap (λ (n : ℕ). lookup b ((shown p).tags k (b.0 % n))) sets in
     let dirty_case : is_dirty (shape_of (shown t)) (shown t).tags a ≡ true → a.0 ≢ l.0 → copy_of (shown t) a ≡ copy_next (shown p) (shown t) a =
     λ dirty other.
     let found = some_exists (length t.caches) (λ k. is_in_m (held_state (shape_of (shown t)) (shown t).tags k a)) dirty in

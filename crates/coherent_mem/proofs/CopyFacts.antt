@@ -2,6 +2,7 @@
 use Rattle.std.proofs.Common.{◌≡◌, ◌≢◌, ℕ, ◌%◌, ◌<◌, ⊎_elim, true, false, List, [], ◌∷◌, ◌++◌, Option, Some, length, sym, ap, subst, ◌∙◌, refl, ◌&&◌}
 use Rattle.std.specs.Option.{is_some}
 use Rattle.std.proofs.lemmas.Bool.{cases_Bool}
+use Rattle.set_assoc.specs.Entries.{lookup}
 use Rattle.conda_base.specs.declared.Line.{Line}
 use Rattle.conda_base.specs.Lines.{IsLineOf}
 use Rattle.conda_base.specs.declared.Mesi.{Mesi}
@@ -10,7 +11,7 @@ use Rattle.traffic_trace.specs.Notes.{Trace, noted}
 use Rattle.traffic_trace.specs.declared.note.Note.{Note}
 use Rattle.line_memory.specs.Notes.{all_noted}
 use Rattle.line_memory.specs.Memory.{IsIn, line_of}
-use Rattle.line_memory.specs.Tags.{held_state, state_in, is_in_m}
+use Rattle.line_memory.specs.Tags.{held_state, is_in_m}
 use Rattle.line_memory.specs.Backing.{BackingView, HasSameNumbers, view_of, shape_of, IsInRange, copy_of}
 use Rattle.line_memory.proofs.BelowLemmas.{none_at, some_exists, some_found}
 use Rattle.line_memory.specs.Copies.{has_same_owner}
@@ -67,7 +68,7 @@ copies_follow p q are new same quiet l there =
     let found = some_exists (length q.caches) (λ h. is_in_m (held_state (shape_of (shown q)) (shown q).tags h l)) dirty in
     let now : held_state (shape_of (shown q)) (shown q).tags found.0 l ≡ Some M = is_m _ found.2 in
     let was : held_state (shape_of (shown p)) (shown p).tags found.0 l ≡ Some M = quiet.dirty l found.0 now in
-    let was_here : held_state (shape_of (shown q)) (shown p).tags found.0 l ≡ Some M = ap (λ (n : ℕ). state_in l ((shown p).tags found.0 (l.0 % n))) same.sets ∙ was in
+    let was_here : held_state (shape_of (shown q)) (shown p).tags found.0 l ≡ Some M = ap (λ (n : ℕ). lookup l ((shown p).tags found.0 (l.0 % n))) same.sets ∙ was in
     let both : (is_in_m (held_state (shape_of (shown q)) (shown p).tags found.0 l) && is_in_m (held_state (shape_of (shown q)) (shown q).tags found.0 l)) ≡ true =
     rw (was_here, now) refl in
     let stays : has_same_owner (shape_of (shown q)) (shown p).tags (shown q).tags l ≡ true =

@@ -4,6 +4,7 @@ use Rattle.std.proofs.Common.{◌≡◌, ◌≢◌, ℕ, suc, ◌%◌, ◌+◌, 
 use Rattle.std.proofs.lemmas.List.{append-nil, places, same_lists}
 use Rattle.std.proofs.lemmas.Bool.{cases_eq, cases_lt, eq-eqb, lt-ltb, le-ltb}
 use Rattle.std.proofs.Math.Numerals.{add-one}
+use Rattle.set_assoc.specs.Entries.{lookup}
 use Rattle.conda_base.specs.declared.Line.{Line}
 use Rattle.conda_base.specs.declared.Mesi.{Mesi}
 use Rattle.conda_base.specs.declared.Mesi.TheVariants.{M, E, S}
@@ -13,7 +14,7 @@ use Rattle.traffic_trace.specs.declared.note.Note.{Note}
 use Rattle.traffic_trace.specs.declared.note.Kind.TheVariants.{Drop}
 use Rattle.line_memory.specs.Notes.{note_of, back_notes, leave_notes, all_noted}
 use Rattle.line_memory.specs.Memory.{IsIn, with_line}
-use Rattle.line_memory.specs.Tags.{Tag, without_line, held_state, state_in}
+use Rattle.line_memory.specs.Tags.{Tag, without_line, held_state}
 use Rattle.line_memory.specs.Backing.{view_of, HasSameNumbers, shape_of}
 use Rattle.coherent_mem.specs.Moves.{IsMoved, list_at, written_back, IsDropped, dropped_notes, own_with, relisted}
 use Rattle.coherent_mem.specs.Parts.{Parts, AreParts, shown}
@@ -33,7 +34,7 @@ list_yet p q h k l is =
     ap (λ (m : ℕ). (shown q).tags k (l.0 % m)) is.numbers.sets ∙ is.tags k n ∙ rw (le-ltb k k (omega arith)) (rw (and_false (eqb n n)) refl)
 
 pub state_yet : (p q : Parts) (h k : ℕ) (l : Line) → IsDropped h l k p q → held_state (shape_of (shown q)) (shown q).tags k l ≡ held_state (shape_of (shown p)) (shown p).tags k l
-state_yet p q h k l is = ap (λ (ts : List Tag). state_in l ts) (list_yet p q h k l is)
+state_yet p q h k l is = ap (λ (ts : List Tag). lookup l ts) (list_yet p q h k l is)
 
 -- the test for one holder more
 test_more : (j k : ℕ) → j ≢ k → ltb j (suc k) ≡ ltb j k
@@ -103,7 +104,7 @@ dropped_skip p q h k l so_far why =
           rw (inside, past) (⊎_elim
           (λ (is_h : k ≡ h). rw (eq-eqb j h (same ∙ is_h)) refl)
           (λ (none : held_state (shape_of (shown q)) (shown q).tags k l ≡ None).
-          let list_none : state_in l ((shown p).tags k n) ≡ None = sym (state_yet p q h k l so_far) ∙ none in
+          let list_none : lookup l ((shown p).tags k n) ≡ None = sym (state_yet p q h k l so_far) ∙ none in
           let gone : without_line l ((shown p).tags j s) ≡ (shown p).tags j s =
           ap (λ i. without_line l ((shown p).tags i s)) same ∙ ap (λ i. without_line l ((shown p).tags k i)) here ∙
           without_line-none l ((shown p).tags k n) list_none ∙ ap (λ i. (shown p).tags k i) (sym here) ∙ ap (λ i. (shown p).tags i s) (sym same) in

@@ -17,7 +17,7 @@ use Rattle.traffic_trace.specs.declared.note.Kind.TheVariants.{Back}
 use Rattle.line_memory.specs.Backing.{shape_of, BackingView, IsDirty, flushed}
 use Rattle.line_memory.specs.Notes.{note_of, flush_notes, back_notes}
 use Rattle.line_memory.specs.Memory.{Memory, IsIn, line_of, with_line, written}
-use Rattle.line_memory.specs.Tags.{Tag, Tags, held_state, state_in, cleaned_line, cleaned_state}
+use Rattle.line_memory.specs.Tags.{Tag, Tags, held_state, cleaned_line, cleaned_state}
 use Rattle.line_memory.proofs.MemberLemmas.{cons_here, cons_later}
 use Rattle.coherent_mem.specs.Moves.{Edits, backed, list_at, written_back}
 use Rattle.coherent_mem.specs.Parts.{Parts, AreParts, IsKept, cache_at, held, seen, shown}
@@ -31,7 +31,7 @@ use Rattle.coherent_mem.proofs.MoveFacts.{IsBack, moved, read_cache, back_dirty,
 use Rattle.coherent_mem.proofs.CoherentFacts.{dirty_state, tag_told}
 use Rattle.conda_base.proofs.LineLemmas.{line_by_number}
 
-cleaned_line-none : (l : Line) (tags : List Tag) → state_in l tags ≡ None → cleaned_line l tags ≡ tags
+cleaned_line-none : (l : Line) (tags : List Tag) → lookup l tags ≡ None → cleaned_line l tags ≡ tags
 cleaned_line-none l [] none = refl
 cleaned_line-none l (tag ∷ tags) none =
     ⊎_elim
@@ -62,10 +62,10 @@ cleaned_line-map n k l a bytes (entry ∷ rest) are at m =
     (cases_Bool (eqb entry.0.0 l.0))
 
 -- a line isn't in the list of another set
-pub other_set_none : (p : Parts) → AreParts p → (l : Line) (h s : ℕ) → s ≢ l.0 % p.sets → state_in l ((shown p).tags h s) ≡ None
+pub other_set_none : (p : Parts) → AreParts p → (l : Line) (h s : ℕ) → s ≢ l.0 % p.sets → lookup l ((shown p).tags h s) ≡ None
 other_set_none p are l h s apart = go ((shown p).tags h s) (λ tag is. (tag_told p are h s tag is).set)
   where
-    go : (tags : List Tag) → ((tag : Tag) → Contains tags tag → tag.0.0 % p.sets ≡ s) → state_in l tags ≡ None
+    go : (tags : List Tag) → ((tag : Tag) → Contains tags tag → tag.0.0 % p.sets ≡ s) → lookup l tags ≡ None
     go [] placed = refl
     go (tag ∷ tags) placed =
         ⊎_elim

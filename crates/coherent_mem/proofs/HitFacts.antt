@@ -23,7 +23,7 @@ use Rattle.line_memory.proofs.MemoryLemmas.{bytes_of_line-in}
 use Rattle.line_memory.specs.Access.{put_front, after_load}
 use Rattle.coherent_mem.specs.Moves.{IsMoved, HasNoNewDirty, list_at}
 use Rattle.coherent_mem.specs.Parts.{Parts, AreParts, cache_at, held, seen, seen_below, shown}
-use Rattle.coherent_mem.specs.Steps.{StepsTo, IsAccess, value_seen}
+use Rattle.coherent_mem.specs.Steps.{StepsTo, IsAccessTo, value_seen}
 use Rattle.coherent_mem.proofs.CacheFacts.{test_off, edit_front}
 use Rattle.coherent_mem.proofs.LineFacts.{kept_same, seen_same}
 use Rattle.coherent_mem.proofs.PartFacts.{IsPartEdit, written_none, held_here, held_beside, held_other, parts_edited, count_same}
@@ -36,7 +36,7 @@ use Rattle.coherent_mem.proofs.MoveFacts.{state_held, list_entries_of, edits_of,
 use Rattle.set_assoc.proofs.EntryLemmas.{length-without}
 
 -- the line of an access is one of memory's, and the access stays in it
-pub access_line : (p : Parts) → AreParts p → (addr size : ℕ) → IsAccess (shown p) addr size → IsIn p.memory (line_at (shown p).line_bytes addr)
+pub access_line : (p : Parts) → AreParts p → (addr size : ℕ) → IsAccessTo (shown p) addr size → IsIn p.memory (line_at (shown p).line_bytes addr)
 access_line p are addr size is =
     let long = length_view p are in
     let from = is.from in
@@ -49,7 +49,7 @@ part_of_part : (size offset n start : ℕ) (xs : List ℕ) → offset + size ≤
 part_of_part size offset n start xs within inside = same_lists _ _ (search (rules, places)) (λ k d below. grind (arith, places))
 
 -- a number in its line is the number that users see
-pub value_of_line : (p : Parts) → AreParts p → (addr size : ℕ) → IsAccess (shown p) addr size → value_at (view_of (shown p) (line_at (shown p).line_bytes addr)) (line_offset addr p.memory.line_bytes) size ≡ value_seen (shown p) addr size
+pub value_of_line : (p : Parts) → AreParts p → (addr size : ℕ) → IsAccessTo (shown p) addr size → value_at (view_of (shown p) (line_at (shown p).line_bytes addr)) (line_offset addr p.memory.line_bytes) size ≡ value_seen (shown p) addr size
 value_of_line p are addr size is =
     let m = p.memory in
     let n : ℕ = m.line_bytes in
@@ -65,7 +65,7 @@ value_of_line p are addr size is =
     ap (λ s. value_at (shown p).view s size) place
 
 -- the same in a buffer of 128 bytes
-pub value_of_buffer : (p : Parts) → AreParts p → (addr size : ℕ) (buffer : List ℕ) → IsAccess (shown p) addr size → buffer ≡ handed_out (view_of (shown p) (line_at (shown p).line_bytes addr)) → value_at buffer (line_offset addr p.memory.line_bytes) size ≡ value_seen (shown p) addr size
+pub value_of_buffer : (p : Parts) → AreParts p → (addr size : ℕ) (buffer : List ℕ) → IsAccessTo (shown p) addr size → buffer ≡ handed_out (view_of (shown p) (line_at (shown p).line_bytes addr)) → value_at buffer (line_offset addr p.memory.line_bytes) size ≡ value_seen (shown p) addr size
 value_of_buffer p are addr size buffer is filled =
     let n : ℕ = p.memory.line_bytes in
     let l : Line = line_at (shown p).line_bytes addr in
@@ -206,7 +206,7 @@ line_tried p h addr was are inside read =
     let is : was ≡ cache_at p h = read_cache p h was inside read in
     (is, ap (λ (c : Contents). c.line_bytes) is ∙ (are.fits h inside).line_bytes)
 
-pub hit_load : (p : Parts) (h addr size v : ℕ) (was : Contents) (found : Option ℕ) (cache : Contents) → AreParts p → h < length p.caches → IsAccess (shown p) addr size → IsLoadTry p h addr size was found cache → found ≡ Some v → IsHit p h addr size v (moved p h cache p.memory p.rows)
+pub hit_load : (p : Parts) (h addr size v : ℕ) (was : Contents) (found : Option ℕ) (cache : Contents) → AreParts p → h < length p.caches → IsAccessTo (shown p) addr size → IsLoadTry p h addr size was found cache → found ≡ Some v → IsHit p h addr size v (moved p h cache p.memory p.rows)
 hit_load p h addr size v was found cache are inside access does is =
     let told = line_tried p h addr was are inside does.read in
     let l : Line = line_at (shown p).line_bytes addr in

@@ -5,11 +5,12 @@ use Rattle.std.proofs.lemmas.Bool.{cases_Bool, cases_eq, eqb-true, eq-eqb}
 use Rattle.std.proofs.lemmas.Nat.{mod_below, mul-add-lt, div-mul-add, mod-mul-add}
 use Rattle.std.specs.List.{slice_get}
 use Rattle.std.specs.Option.{is_some, MatchOption}
+use Rattle.set_assoc.specs.Entries.{lookup}
 use Rattle.conda_base.specs.declared.Line.{Line}
 use Rattle.conda_base.specs.declared.Mesi.{Mesi}
 use Rattle.conda_base.specs.declared.Mesi.TheVariants.{M, E, S}
 use Rattle.conda_base.specs.LineLists.{line_at}
-use Rattle.line_memory.specs.Tags.{Tag, is_modified, state_in, without_line, cleaned_line, cleaned_state, held_state}
+use Rattle.line_memory.specs.Tags.{Tag, is_modified, without_line, cleaned_line, cleaned_state, held_state}
 use Rattle.line_memory.specs.Backing.{BackingView, HasSameNumbers, flushed, shape_of}
 use Rattle.line_memory.specs.Access.{put_front, after_store}
 use Rattle.line_memory.specs.Memory.{Memory}
@@ -17,7 +18,7 @@ use Rattle.coherent_mem.specs.Marked.{AreMarked, IsCleanFrom, is_m_at}
 use Rattle.coherent_mem.specs.Moves.{IsAlone}
 use Rattle.coherent_mem.specs.Parts.{Parts, AreParts, shown}
 use Rattle.coherent_mem.specs.Steps.{StepsTo}
-use Rattle.coherent_mem.proofs.AloneFacts.{state_in-without}
+use Rattle.coherent_mem.proofs.AloneFacts.{lookup-without_line}
 use Rattle.coherent_mem.proofs.CacheFacts.{test_off}
 use Rattle.coherent_mem.proofs.CoherentFacts.{coherent}
 use Rattle.coherent_mem.proofs.MergeFacts.{with_memory}
@@ -48,15 +49,15 @@ marked_more a b h l marks same some inside from is =
           (cases_eq (k * a.sets + j.0 % a.sets) place);
     }
 
-pub state_in-without_other : (l j : Line) (tags : List Tag) → j.0 ≢ l.0 → state_in j (without_line l tags) ≡ state_in j tags
-state_in-without_other l j [] apart = refl
-state_in-without_other l j (tag ∷ tags) apart =
+pub lookup-without_line_other : (l j : Line) (tags : List Tag) → j.0 ≢ l.0 → lookup j (without_line l tags) ≡ lookup j tags
+lookup-without_line_other l j [] apart = refl
+lookup-without_line_other l j (tag ∷ tags) apart =
     ⊎_elim
     (λ (on : eqb tag.0.0 l.0 ≡ true).
     let off : eqb tag.0.0 j.0 ≡ false = test_off tag.0.0 j.0 (λ same. apart (sym same ∙ eqb-true _ _ on)) in
-    rw (on, off) (state_in-without_other l j tags apart))
+    rw (on, off) (lookup-without_line_other l j tags apart))
     (λ (off : eqb tag.0.0 l.0 ≡ false). rw off
-    (⊎_elim (λ (here : eqb tag.0.0 j.0 ≡ true). rw here refl) (λ (no : eqb tag.0.0 j.0 ≡ false). rw no (state_in-without_other l j tags apart)) (cases_Bool (eqb tag.0.0 j.0))))
+    (⊎_elim (λ (here : eqb tag.0.0 j.0 ≡ true). rw here refl) (λ (no : eqb tag.0.0 j.0 ≡ false). rw no (lookup-without_line_other l j tags apart)) (cases_Bool (eqb tag.0.0 j.0))))
     (cases_Bool (eqb tag.0.0 l.0))
 
 -- after a store by a holder that was alone, only its line may have become M
@@ -66,15 +67,15 @@ stored_states p u t h l view alone steps j k m =
     let n : ℕ = l.0 % p.sets in
     let s : ℕ = j.0 % p.sets in
     let after : ℕ → ℕ → List Tag = after_store (shape_of (shown p)) (shown p).tags h l in
-    let m_after : state_in j (after k s) ≡ Some M = sym (ap (λ (c : ℕ). state_in j ((shown t).tags k (j.0 % c))) steps.numbers.sets ∙ ap (λ (f : ℕ → ℕ → List Tag). state_in j (f k s)) steps.tags) ∙ m in
-    let back : state_in j ((shown u).tags k s) ≡ held_state (shape_of (shown u)) (shown u).tags k j = sym (ap (λ (c : ℕ). state_in j ((shown u).tags k (j.0 % c))) alone.numbers.sets) in
+    let m_after : lookup j (after k s) ≡ Some M = sym (ap (λ (c : ℕ). lookup j ((shown t).tags k (j.0 % c))) steps.numbers.sets ∙ ap (λ (f : ℕ → ℕ → List Tag). lookup j (f k s)) steps.tags) ∙ m in
+    let back : lookup j ((shown u).tags k s) ≡ held_state (shape_of (shown u)) (shown u).tags k j = sym (ap (λ (c : ℕ). lookup j ((shown u).tags k (j.0 % c))) alone.numbers.sets) in
     ⊎_elim
     (λ (line : j.0 ≡ l.0). ⊎_elim
     (λ (same : k ≡ h). inl (line, same))
     (λ (apart : k ≢ h).
     let here : s ≡ n = ap (λ i. i % p.sets) line in
     let list : after k s ≡ without_line l ((shown p).tags k s) = rw (eq-eqb s n here, test_off k h apart) refl in
-    let none : state_in j (after k s) ≡ None = ap (λ b. state_in b (after k s)) (line_by_number j l line) ∙ ap (λ (ts : List Tag). state_in l ts) list ∙ state_in-without l ((shown p).tags k s) in
+    let none : lookup j (after k s) ≡ None = ap (λ b. lookup b (after k s)) (line_by_number j l line) ∙ ap (λ (ts : List Tag). lookup l ts) list ∙ lookup-without_line l ((shown p).tags k s) in
     let both : None ≡ Some M = sym none ∙ m_after in absurd cc)
     (cases_eq k h))
     (λ (other : j.0 ≢ l.0). inr (sym back ∙ ⊎_elim
@@ -84,15 +85,15 @@ stored_states p u t h l view alone steps j k m =
     rw (eq-eqb s n here, eq-eqb k h same) (ap (λ i. put_front (shape_of (shown p)).ways l M ((shown p).tags i s)) same ∙ ap (λ i. put_front (shape_of (shown p)).ways l M ((shown p).tags h i)) here ∙ sym alone.front ∙
     ap (λ (c : ℕ). (l, M) ∷ without_line l ((shown u).tags h (l.0 % c))) alone.numbers.sets) in
     let off : eqb l.0 j.0 ≡ false = test_off l.0 j.0 (λ e. other (sym e)) in
-    let skip : state_in j ((l, M) ∷ without_line l ((shown u).tags h n)) ≡ state_in j ((shown u).tags h n) = rw off (state_in-without_other l j ((shown u).tags h n) other) in
-    ap (λ i. state_in j ((shown u).tags i s)) same ∙ ap (λ i. state_in j ((shown u).tags h i)) here ∙ sym (ap (λ (ts : List Tag). state_in j ts) now ∙ skip) ∙ m_after)
+    let skip : lookup j ((l, M) ∷ without_line l ((shown u).tags h n)) ≡ lookup j ((shown u).tags h n) = rw off (lookup-without_line_other l j ((shown u).tags h n) other) in
+    ap (λ i. lookup j ((shown u).tags i s)) same ∙ ap (λ i. lookup j ((shown u).tags h i)) here ∙ sym (ap (λ (ts : List Tag). lookup j ts) now ∙ skip) ∙ m_after)
     (λ (away : s ≢ n).
     let now : after k s ≡ (shown p).tags k s = rw (test_off s n away) refl in
-    ap (λ i. state_in j ((shown u).tags i s)) same ∙ ap (λ (ts : List Tag). state_in j ts) (alone.rest s away) ∙ sym (ap (λ (ts : List Tag). state_in j ts) now ∙ ap (λ i. state_in j ((shown p).tags i s)) same) ∙ m_after)
+    ap (λ i. lookup j ((shown u).tags i s)) same ∙ ap (λ (ts : List Tag). lookup j ts) (alone.rest s away) ∙ sym (ap (λ (ts : List Tag). lookup j ts) now ∙ ap (λ i. lookup j ((shown p).tags i s)) same) ∙ m_after)
     (cases_eq s n))
     (λ (apart : k ≢ h).
     let now : after k s ≡ (shown u).tags k s = both_others (eqb s n) k s (test_off k h apart) (alone.others k s apart) in
-    ap (λ (ts : List Tag). state_in j ts) (sym now) ∙ m_after)
+    ap (λ (ts : List Tag). lookup j ts) (sym now) ∙ m_after)
     (cases_eq k h)))
     (cases_eq j.0 l.0)
   where
@@ -109,7 +110,7 @@ flushed_states b l j k m = go (b.tags k (j.0 % b.sets)) m
     clean E is = absurd cc
     clean S is = absurd cc
 
-    go : (tags : List Tag) → state_in j (cleaned_line l tags) ≡ Some M → state_in j tags ≡ Some M
+    go : (tags : List Tag) → lookup j (cleaned_line l tags) ≡ Some M → lookup j tags ≡ Some M
     go [] is = is
     go (tag ∷ tags) is =
         ⊎_elim
@@ -124,7 +125,7 @@ flushed_states b l j k m = go (b.tags k (j.0 % b.sets)) m
         (cases_Bool (eqb tag.0.0 l.0))
 
 -- a line in M stands at some way
-state_place : (j : Line) (tags : List Tag) → state_in j tags ≡ Some M → (i : ℕ) × (i < length tags) × (is_m_at (slice_get tags i) ≡ true)
+state_place : (j : Line) (tags : List Tag) → lookup j tags ≡ Some M → (i : ℕ) × (i < length tags) × (is_m_at (slice_get tags i) ≡ true)
 state_place j [] is = absurd cc
 state_place j (tag ∷ tags) is =
     ⊎_elim
@@ -136,7 +137,7 @@ state_place j (tag ∷ tags) is =
     let found = state_place j tags (rw off at is) in (suc found.0, omega arith, found.2))
     (cases_Bool (eqb tag.0.0 j.0))
 
-pub none_modified : (j : Line) (tags : List Tag) (ways : ℕ) → length tags ≤ ways → IsCleanFrom tags 0 ways → state_in j tags ≢ Some M
+pub none_modified : (j : Line) (tags : List Tag) (ways : ℕ) → length tags ≤ ways → IsCleanFrom tags 0 ways → lookup j tags ≢ Some M
 none_modified j tags ways short clean is =
     let found = state_place j tags is in
     let below = found.1 in
@@ -157,7 +158,7 @@ marked_less p h mark l marks are at clean is =
           let holder : k ≡ h = sym (div-mul-add k p.sets (j.0 % p.sets) low_j) ∙ ap (λ x. x / p.sets) same ∙ div-mul-add h p.sets (l.0 % p.sets) low in
           let set_is : j.0 % p.sets ≡ l.0 % p.sets = sym (mod-mul-add k p.sets (j.0 % p.sets) low_j) ∙ ap (λ x. x % p.sets) same ∙ mod-mul-add h p.sets (l.0 % p.sets) low in
           absurd (none_modified j ((shown p).tags h (l.0 % p.sets)) p.ways short clean
-          (ap (λ i. state_in j ((shown p).tags h i)) (sym set_is) ∙ ap (λ i. state_in j ((shown p).tags i (j.0 % p.sets))) (sym holder) ∙ m)))
+          (ap (λ i. lookup j ((shown p).tags h i)) (sym set_is) ∙ ap (λ i. lookup j ((shown p).tags i (j.0 % p.sets))) (sym holder) ∙ m)))
           (λ (apart : k * p.sets + j.0 % p.sets ≢ mark). get_or-set_other marks mark (k * p.sets + j.0 % p.sets) false false apart ∙ is.marked j k m)
           (cases_eq (k * p.sets + j.0 % p.sets) mark);
     }
@@ -196,7 +197,7 @@ marked_flushed b l marks is = marked_same b (flushed b l) marks (record { line_b
 pub marked_new : (b : BackingView) (marks : List Bool) → ((h s : ℕ) → b.tags h s ≡ []) → length marks ≡ b.holders * b.sets → AreMarked b marks
 marked_new b marks none count = record {
   count = count;
-  marked = λ l h m. let both : None ≡ Some M = sym (ap (λ (ts : List Tag). state_in l ts) (none h (l.0 % b.sets))) ∙ m in absurd cc;
+  marked = λ l h m. let both : None ≡ Some M = sym (ap (λ (ts : List Tag). lookup l ts) (none h (l.0 % b.sets))) ∙ m in absurd cc;
 }
 
 pub none_given : {A : Type 0} (o : Option A) (P : Type 0) (Q : A → Type 0) → is_some o ≡ false → MatchOption o P Q → P

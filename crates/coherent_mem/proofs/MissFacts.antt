@@ -5,6 +5,7 @@ use Rattle.std.proofs.lemmas.List.{take_all, length-take}
 use Rattle.std.proofs.lemmas.Bool.{cases_eq, cases_Bool, eq-eqb}
 use Rattle.std.proofs.Math.Path.{fun_ext}
 use Rattle.std.specs.List.{slice_get}
+use Rattle.set_assoc.specs.Entries.{lookup}
 use Rattle.conda_base.specs.declared.Line.{Line}
 use Rattle.conda_base.specs.declared.Mesi.{Mesi}
 use Rattle.conda_base.specs.declared.Mesi.TheVariants.{M, E, S}
@@ -17,12 +18,12 @@ use Rattle.traffic_trace.specs.declared.note.Note.{Note}
 use Rattle.traffic_trace.specs.declared.note.Kind.TheVariants.{Fill}
 use Rattle.line_memory.specs.Notes.{all_notes, note_of, all_noted, others_notes, down_notes, access_notes, load_notes}
 use Rattle.line_memory.specs.Memory.{IsIn}
-use Rattle.line_memory.specs.Tags.{Tag, Tags, without_line, held_state, state_in, some_below}
+use Rattle.line_memory.specs.Tags.{Tag, Tags, without_line, held_state, some_below}
 use Rattle.line_memory.specs.Backing.{view_of, HasSameNumbers, shape_of}
 use Rattle.line_memory.proofs.BelowLemmas.{some_same}
 use Rattle.line_memory.specs.Access.{loaded_state, shared_line, is_held_elsewhere, put_front, after_load}
 use Rattle.line_memory.proofs.WalkLemmas.{each_same}
-use Rattle.coherent_mem.specs.Moves.{IsMoved, HasNoNewDirty, list_at, gone_notes, IsFree, IsShared, HasRoom, relisted}
+use Rattle.coherent_mem.specs.Moves.{IsMoved, HasNoNewDirty, list_at, gone_notes, IsFree, IsShared, MakesRoom, relisted}
 use Rattle.coherent_mem.specs.Parts.{Parts, AreParts, held, shown}
 use Rattle.coherent_mem.specs.Steps.{StepsTo}
 use Rattle.coherent_mem.proofs.CacheFacts.{test_off}
@@ -56,7 +57,7 @@ relisted_same tags h n k s =
     (λ (other : s ≢ n). rw (test_off s n other) refl)
     (cases_eq s n)
 
-roomy_by : (p q : Parts) (h : ℕ) (l : Line) (last : Option Tag) → AreParts p → h < length p.caches → slice_get (list_at (shown p) h l) (p.ways - 1) ≡ last → HasRoom h l p q last → IsRoomy h l p q
+roomy_by : (p q : Parts) (h : ℕ) (l : Line) (last : Option Tag) → AreParts p → h < length p.caches → slice_get (list_at (shown p) h l) (p.ways - 1) ≡ last → MakesRoom h l p q last → IsRoomy h l p q
 roomy_by p q h l None are inside at same =
     let past : length (list_at (shown p) h l) ≤ p.ways - 1 = get_past (list_at (shown p) h l) (p.ways - 1) at in
     let whole : take (p.ways - 1) (list_at (shown p) h l) ≡ list_at (shown p) h l = take_all (p.ways - 1) (list_at (shown p) h l) past in
@@ -76,20 +77,20 @@ roomy_by p q h l (Some tag) are inside at is = record {
   are = is.are;
 }
 
-pub roomy : (p q : Parts) (h : ℕ) (l : Line) → AreParts p → h < length p.caches → HasRoom h l p q (slice_get (list_at (shown p) h l) (p.ways - 1)) → IsRoomy h l p q
+pub roomy : (p q : Parts) (h : ℕ) (l : Line) → AreParts p → h < length p.caches → MakesRoom h l p q (slice_get (list_at (shown p) h l) (p.ways - 1)) → IsRoomy h l p q
 roomy p q h l are inside is = roomy_by p q h l (slice_get (list_at (shown p) h l) (p.ways - 1)) are inside refl is
 
 -- a list in which a line isn't there
-pub state_in-take : (l : Line) (n : ℕ) (tags : List Tag) → state_in l tags ≡ None → state_in l (take n tags) ≡ None
-state_in-take l zero tags none = refl
-state_in-take l (suc n) [] none = refl
-state_in-take l (suc n) (tag ∷ tags) none =
+pub lookup-take : (l : Line) (n : ℕ) (tags : List Tag) → lookup l tags ≡ None → lookup l (take n tags) ≡ None
+lookup-take l zero tags none = refl
+lookup-take l (suc n) [] none = refl
+lookup-take l (suc n) (tag ∷ tags) none =
     ⊎_elim
     (λ (on : eqb tag.0.0 l.0 ≡ true). let both : Some tag.1 ≡ None = rw on at none in absurd cc)
-    (λ (off : eqb tag.0.0 l.0 ≡ false). rw off (state_in-take l n tags (rw off at none)))
+    (λ (off : eqb tag.0.0 l.0 ≡ false). rw off (lookup-take l n tags (rw off at none)))
     (cases_Bool (eqb tag.0.0 l.0))
 
-pub without_line-none : (l : Line) (tags : List Tag) → state_in l tags ≡ None → without_line l tags ≡ tags
+pub without_line-none : (l : Line) (tags : List Tag) → lookup l tags ≡ None → without_line l tags ≡ tags
 without_line-none l [] none = refl
 without_line-none l (tag ∷ tags) none =
     ⊎_elim
@@ -97,7 +98,7 @@ without_line-none l (tag ∷ tags) none =
     (λ (off : eqb tag.0.0 l.0 ≡ false). rw off (ap (λ ts. tag ∷ ts) (without_line-none l tags (rw off at none))))
     (cases_Bool (eqb tag.0.0 l.0))
 
-pub shared_line-none : (l : Line) (tags : List Tag) → state_in l tags ≡ None → shared_line l tags ≡ tags
+pub shared_line-none : (l : Line) (tags : List Tag) → lookup l tags ≡ None → shared_line l tags ≡ tags
 shared_line-none l [] none = refl
 shared_line-none l (tag ∷ tags) none =
     ⊎_elim
@@ -109,12 +110,12 @@ shared_line-none l (tag ∷ tags) none =
 pub room_states : (p q : Parts) (h : ℕ) (l : Line) → IsRoomy h l p q → held_state (shape_of (shown p)) (shown p).tags h l ≡ None → (k : ℕ) → held_state (shape_of (shown q)) (shown q).tags k l ≡ held_state (shape_of (shown p)) (shown p).tags k l
 room_states p q h l is none k =
     let n : ℕ = l.0 % p.sets in
-    let at : state_in l ((shown q).tags k (l.0 % q.sets)) ≡ state_in l ((shown q).tags k n) = ap (λ (m : ℕ). state_in l ((shown q).tags k (l.0 % m))) is.numbers.sets in
+    let at : lookup l ((shown q).tags k (l.0 % q.sets)) ≡ lookup l ((shown q).tags k n) = ap (λ (m : ℕ). lookup l ((shown q).tags k (l.0 % m))) is.numbers.sets in
     let same : eqb n n ≡ true = eq-eqb n n refl in
     let list : (shown q).tags k n ≡ cond (eqb k h) (take (p.ways - 1) (list_at (shown p) h l)) ((shown p).tags k n) = rw same at (is.tags k n) in
-    at ∙ ap (λ (ts : List Tag). state_in l ts) list ∙
+    at ∙ ap (λ (ts : List Tag). lookup l ts) list ∙
     ⊎_elim
-    (λ (here : k ≡ h). rw (eq-eqb k h here) (state_in-take l (p.ways - 1) (list_at (shown p) h l) none ∙ sym none ∙ ap (λ i. state_in l ((shown p).tags i n)) (sym here)))
+    (λ (here : k ≡ h). rw (eq-eqb k h here) (lookup-take l (p.ways - 1) (list_at (shown p) h l) none ∙ sym none ∙ ap (λ i. lookup l ((shown p).tags i n)) (sym here)))
     (λ (apart : k ≢ h). rw (test_off k h apart) refl)
     (cases_eq k h)
 
@@ -182,7 +183,7 @@ pub missed : (p q r t : Parts) (h : ℕ) (l : Line) (state : Mesi) → AreParts 
 missed p q r t h l state are inside absent sharing room is =
     let n : ℕ = l.0 % p.sets in
     let none_state : held_state (shape_of (shown p)) (shown p).tags h l ≡ None = state_shown p are l h ∙ ap (λ x. option_map state_of_content x) absent in
-    let list_none : state_in l (list_at (shown p) h l) ≡ None = none_state in
+    let list_none : lookup l (list_at (shown p) h l) ≡ None = none_state in
     let q_sets : q.sets ≡ p.sets = sharing.numbers.sets in
     let r_sets : r.sets ≡ p.sets = room.numbers.sets ∙ q_sets in
     let q_ways : q.ways ≡ p.ways = sharing.numbers.ways in
@@ -230,7 +231,7 @@ missed p q r t h l state are inside absent sharing room is =
 pub shared_list_same : (p q : Parts) (h : ℕ) (l : Line) (state : Mesi) → AreParts p → held p l h ≡ None → IsShared l state p q → list_at (shown q) h l ≡ list_at (shown p) h l
 shared_list_same p q h l state are absent sharing =
     let n : ℕ = l.0 % p.sets in
-    let none : state_in l (list_at (shown p) h l) ≡ None = state_shown p are l h ∙ ap (λ x. option_map state_of_content x) absent in
+    let none : lookup l (list_at (shown p) h l) ≡ None = state_shown p are l h ∙ ap (λ x. option_map state_of_content x) absent in
     let self_n : eqb n n ≡ true = eq-eqb n n refl in
     ap (λ (m : ℕ). (shown q).tags h (l.0 % m)) sharing.numbers.sets ∙ (rw self_n at (sharing.tags h n)) ∙ shared_line-none l (list_at (shown p) h l) none
 

@@ -12,7 +12,7 @@ use Rattle.set_assoc.specs.Entries.{without}
 use Rattle.cpu_cache.specs.Contents.{Content, Contents, IsHeld, content_of, set_list, tag_of, with_set, bytes_in, written_back as handed_back}
 use Rattle.set_assoc.proofs.FindFacts.{list_entries}
 use Rattle.mesi_directory.specs.declared.row.Row.{Row}
-use Rattle.mesi_directory.specs.Rows.{Rows, IsRow, row_of, with_row, has, without as row_without, IsIn as IsRowIn}
+use Rattle.mesi_directory.specs.Rows.{Rows, IsRow, row_of, with_row, has, without as row_without, HasRow}
 use Rattle.mesi_directory.proofs.RowLemmas.{IsRow-without, held_below, row_of-with_row_same}
 use Rattle.line_memory.specs.Notes.{back_notes}
 use Rattle.line_memory.specs.Memory.{Memory, IsIn, line_of, with_line, written}
@@ -246,7 +246,7 @@ pub record CanLeave (p : Parts) (h : ℕ) (l : Line) (was : Contents) : Type 0 w
   pub holder : h < length p.caches
   pub held : IsHeld was l
   pub inside : IsIn p.memory l
-  pub row : IsRowIn p.rows l
+  pub row : HasRow p.rows l
   pub has : has (row_of p.rows l) h ≡ true
 
 pub can_leave : (p : Parts) (h : ℕ) (l : Line) (was : Contents) → AreParts p → IsSome (held_state (shape_of (shown p)) (shown p).tags h l) → was ≡ get_or p.caches h was → CanLeave p h l was

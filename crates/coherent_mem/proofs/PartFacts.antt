@@ -8,7 +8,7 @@ use Rattle.conda_base.proofs.LineLemmas.{line_bytes_in_memory, line_by_number}
 use Rattle.cpu_cache.specs.Contents.{Content, Contents, content_of, empty}
 use Rattle.mesi_directory.specs.declared.row.Row.{Row}
 use Rattle.mesi_directory.specs.declared.row.Row.TheVariants.{Nobody}
-use Rattle.mesi_directory.specs.Rows.{Rows, AreRows, IsRow, IsIn as IsRowIn, row_of, with_row}
+use Rattle.mesi_directory.specs.Rows.{Rows, AreRows, IsRow, HasRow, row_of, with_row}
 use Rattle.mesi_directory.proofs.RowLemmas.{row_of-with_row_other}
 use Rattle.line_memory.specs.Memory.{Memory, IsMemory, IsIn, line_of, written}
 use Rattle.line_memory.specs.Tags.{each_below}
@@ -34,7 +34,7 @@ pub record IsRowed (d : Rows) (l : Line) (new : Rows) : Type 0 where
   pub first : new.first ≡ d.first
   pub count : length new.rows ≡ length d.rows
   pub valid : AreRows new.rows
-  pub others : (a : Line) → IsRowIn d a → a.0 ≢ l.0 → row_of new a ≡ row_of d a
+  pub others : (a : Line) → HasRow d a → a.0 ≢ l.0 → row_of new a ≡ row_of d a
 
 -- the parts after one holder's content of one line has changed
 pub record IsPartEdit (p : Parts) (h : ℕ) (l : Line) (x : Option Content) (q : Parts) : Type 0 where
@@ -47,7 +47,7 @@ pub record IsPartEdit (p : Parts) (h : ℕ) (l : Line) (x : Option Content) (q :
   pub edited : IsEdit (cache_at p h) l x cache
 
 -- a line of the memory has a row
-pub row_in : (p : Parts) → AreParts p → (l : Line) → IsIn p.memory l → IsRowIn p.rows l
+pub row_in : (p : Parts) → AreParts p → (l : Line) → IsIn p.memory l → HasRow p.rows l
 row_in p are l is = record {
   from = rw are.first is.from;
   below = rw (are.first, are.count) is.below;
@@ -66,7 +66,7 @@ written_line m l bytes is inside long =
       others = λ a there apart. bytes_of_line-with_line_other m.base m.line_bytes a.0 l.0 m.bytes bytes is there inside long apart;
     }
 
-pub rowed_line : (d : Rows) (l : Line) (row : Row) → AreRows d.rows → IsRowIn d l → IsRow row → IsRowed d l (with_row d l row)
+pub rowed_line : (d : Rows) (l : Line) (row : Row) → AreRows d.rows → HasRow d l → IsRow row → IsRowed d l (with_row d l row)
 rowed_line d l row are inside is = record {
   first = refl;
   count = length-set d.rows (l.0 - d.first) row;

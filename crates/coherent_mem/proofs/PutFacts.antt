@@ -21,7 +21,7 @@ use Rattle.line_memory.specs.Tags.{without_line, each_below}
 use Rattle.line_memory.proofs.WalkLemmas.{each_same}
 use Rattle.coherent_mem.specs.Moves.{list_at, relisted}
 use Rattle.coherent_mem.specs.Parts.{Parts, AreParts, IsKept, cache_at, held, seen, shown, line_at_place, line_count, first_line}
-use Rattle.coherent_mem.specs.Steps.{IsAccess, view_stored}
+use Rattle.coherent_mem.specs.Steps.{IsAccessTo, view_stored}
 use Rattle.coherent_mem.proofs.CacheFacts.{edit_front}
 use Rattle.coherent_mem.proofs.LineFacts.{kept_owned}
 use Rattle.coherent_mem.proofs.PartFacts.{IsRowed, IsPartEdit, written_none, held_here, held_beside, parts_edited, view_same, place_in, seen_other}
@@ -108,7 +108,7 @@ pub put_same : (p q : Parts) (h : ℕ) (l : Line) (bytes : List ℕ) → ArePart
 put_same p q h l bytes are inside is same = view_same p q h l (Some (record { state = M; bytes = bytes })) are inside is.edit (is.seen ∙ same)
 
 -- they see a stored number, where the bytes have it
-pub put_stored : (p q : Parts) (h addr size value : ℕ) (bytes : List ℕ) → AreParts p → h < length p.caches → IsAccess (shown p) addr size → IsPut p q h (line_at (shown p).line_bytes addr) bytes → bytes ≡ stored (seen p (line_at (shown p).line_bytes addr)) (line_offset addr p.memory.line_bytes) size value → (shown q).view ≡ view_stored (shown p) addr size value
+pub put_stored : (p q : Parts) (h addr size value : ℕ) (bytes : List ℕ) → AreParts p → h < length p.caches → IsAccessTo (shown p) addr size → IsPut p q h (line_at (shown p).line_bytes addr) bytes → bytes ≡ stored (seen p (line_at (shown p).line_bytes addr)) (line_offset addr p.memory.line_bytes) size value → (shown q).view ≡ view_stored (shown p) addr size value
 put_stored p q h addr size value bytes are inside access is same =
     let n : ℕ = p.memory.line_bytes in
     let l : Line = line_at (shown p).line_bytes addr in

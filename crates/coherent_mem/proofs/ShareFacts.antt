@@ -21,7 +21,7 @@ use Rattle.mesi_directory.proofs.RowLemmas.{has-owner}
 use Rattle.line_memory.specs.Notes.{all_notes, down_notes}
 use Rattle.line_memory.specs.Owners.{is_owner}
 use Rattle.line_memory.specs.Memory.{IsIn, line_of}
-use Rattle.line_memory.specs.Tags.{Tag, held_state, state_in, some_below}
+use Rattle.line_memory.specs.Tags.{Tag, held_state, some_below}
 use Rattle.line_memory.proofs.BelowLemmas.{none_at, none_found, some_found}
 use Rattle.line_memory.specs.Backing.{shape_of}
 use Rattle.line_memory.specs.Access.{shared_line}
@@ -97,21 +97,21 @@ noted_already p l are shared =
     (λ k below. ap (λ o. down_notes l k o) (state_shown p are l k) ∙ quiet_notes l k (held p l k) (shared k))
 
 -- the state of a line after an edit of its set's list in one cache
-pub state_after : (p q : Parts) (list : List Tag) (own : List ℕ) (h : ℕ) (l : Line) → Edits list own h l (shown p) (shown q) → (k : ℕ) → held_state (shape_of (shown q)) (shown q).tags k l ≡ cond (eqb k h) (state_in l list) (held_state (shape_of (shown p)) (shown p).tags k l)
+pub state_after : (p q : Parts) (list : List Tag) (own : List ℕ) (h : ℕ) (l : Line) → Edits list own h l (shown p) (shown q) → (k : ℕ) → held_state (shape_of (shown q)) (shown q).tags k l ≡ cond (eqb k h) (lookup l list) (held_state (shape_of (shown p)) (shown p).tags k l)
 state_after p q list own h l edits k =
     let n : ℕ = l.0 % p.sets in
-    let at : state_in l ((shown q).tags k (l.0 % q.sets)) ≡ state_in l ((shown q).tags k n) = ap (λ (m : ℕ). state_in l ((shown q).tags k (l.0 % m))) edits.numbers.sets in
+    let at : lookup l ((shown q).tags k (l.0 % q.sets)) ≡ lookup l ((shown q).tags k n) = ap (λ (m : ℕ). lookup l ((shown q).tags k (l.0 % m))) edits.numbers.sets in
     let same : eqb n n ≡ true = eq-eqb n n refl in
     let list_is : (shown q).tags k n ≡ cond (eqb k h) list ((shown p).tags k n) = rw same at (edits.tags k n) in
-    at ∙ ap (λ (ts : List Tag). state_in l ts) list_is ∙
+    at ∙ ap (λ (ts : List Tag). lookup l ts) list_is ∙
     ⊎_elim (λ (on : eqb k h ≡ true). rw on refl) (λ (off : eqb k h ≡ false). rw off refl) (cases_Bool (eqb k h))
 
-state_in-shared : (l : Line) (state : Mesi) (tags : List Tag) → state_in l tags ≡ Some state → state_in l (shared_line l tags) ≡ Some S
-state_in-shared l state [] is = absurd cc
-state_in-shared l state (tag ∷ tags) is =
+lookup-shared : (l : Line) (state : Mesi) (tags : List Tag) → lookup l tags ≡ Some state → lookup l (shared_line l tags) ≡ Some S
+lookup-shared l state [] is = absurd cc
+lookup-shared l state (tag ∷ tags) is =
     ⊎_elim
     (λ (on : eqb tag.0.0 l.0 ≡ true). rw on (rw on refl))
-    (λ (off : eqb tag.0.0 l.0 ≡ false). rw off (rw off (state_in-shared l state tags (rw off at is))))
+    (λ (off : eqb tag.0.0 l.0 ≡ false). rw off (rw off (lookup-shared l state tags (rw off at is))))
     (cases_Bool (eqb tag.0.0 l.0))
 
 state_none : (o : Option Content) → option_map state_of_content o ≡ None → o ≡ None
@@ -126,7 +126,7 @@ shared_from_owner p q l o a are at owns is =
     let none : (k : ℕ) → k ≢ o → held p l k ≡ None = λ k apart. beside_owner (held p l) (row_of p.rows l) (line_of p.memory l) kept o k a at owns apart in
     let now : (k : ℕ) → option_map state_of_content (held q l k) ≡ cond (eqb k o) (Some S) None =
     λ k. sym (state_shown q is.are l k) ∙ state_after p q _ _ o l is.edits k ∙ ⊎_elim
-    (λ (same : k ≡ o). rw (eq-eqb k o same) (state_in-shared l a.state (list_at (shown p) o l) (state_held p are l o a at)))
+    (λ (same : k ≡ o). rw (eq-eqb k o same) (lookup-shared l a.state (list_at (shown p) o l) (state_held p are l o a at)))
     (λ (apart : k ≢ o). rw (test_off k o apart) (state_shown p are l k ∙ ap (λ x. option_map state_of_content x) (none k apart)))
     (cases_eq k o) in
     record {

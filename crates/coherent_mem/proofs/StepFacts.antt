@@ -2,6 +2,7 @@
 use Rattle.std.proofs.Common.{◌≡◌, ◌≢◌, ℕ, ◌%◌, ◌-◌, ◌*◌, ⊎_elim, Bool, true, false, ◌&&◌, List, [], ◌∷◌, Option, Some, None, length, take, eqb, cond, sym, ap, subst, ◌∙◌, refl, arith, drop}
 use Rattle.std.proofs.lemmas.List.{length-drop, length-take-le}
 use Rattle.std.proofs.lemmas.Bool.{cases_Bool, cases_eq, eqb-true}
+use Rattle.set_assoc.specs.Entries.{lookup}
 use Rattle.conda_base.specs.Lines.{IsLineOf}
 use Rattle.conda_base.specs.declared.Line.{Line}
 use Rattle.conda_base.specs.declared.Mesi.{Mesi}
@@ -9,7 +10,7 @@ use Rattle.conda_base.specs.declared.Mesi.TheVariants.{M, E, S}
 use Rattle.conda_base.proofs.LineLemmas.{line_bytes_in_memory, line_size_bounds, line_by_number}
 use Rattle.conda_base.proofs.MarkLemmas.{length-mixed}
 use Rattle.line_memory.specs.Memory.{IsMemory}
-use Rattle.line_memory.specs.Tags.{Tag, Tags, cleaned_state, cleaned_line, state_in, some_below, held_state, is_in_m}
+use Rattle.line_memory.specs.Tags.{Tag, Tags, cleaned_state, cleaned_line, some_below, held_state, is_in_m}
 use Rattle.line_memory.specs.Backing.{BackingView, HasSameNumbers, IsBacking, IsDirty, IsInRange, copy_of, view_of, committed_line, flushed, merged, shape_of}
 use Rattle.line_memory.proofs.BelowLemmas.{none_found, some_found, some_same}
 use Rattle.line_memory.proofs.MemberLemmas.{state_of_dirty}
@@ -18,9 +19,9 @@ use Rattle.line_memory.specs.Access.{after_flush, after_merge}
 use Rattle.line_memory.specs.Copies.{has_same_owner}
 use Rattle.coherent_mem.specs.Steps.{StepsTo}
 use Rattle.coherent_mem.proofs.DirtyFacts.{copy_next, follows, is_dirty}
-use Rattle.coherent_mem.proofs.AloneFacts.{state_in-without}
+use Rattle.coherent_mem.proofs.AloneFacts.{lookup-without_line}
 use Rattle.coherent_mem.proofs.CacheFacts.{test_off}
-use Rattle.coherent_mem.proofs.MarkFacts.{state_in-without_other}
+use Rattle.coherent_mem.proofs.MarkFacts.{lookup-without_line_other}
 
 and_same : (b : Bool) → (b && b) ≡ b
 and_same true = refl
@@ -56,7 +57,7 @@ one_line a b after bytes l is is_new numbers tags view none here states others =
       ap (λ (n : ℕ). some_below n (λ h. is_in_m (held_state (shape_of a) a.tags h j))) numbers.holders in
       let stays_same : has_same_owner (shape_of b) a.tags b.tags j ≡ is_dirty (shape_of a) a.tags j =
       some_same b.holders (λ h. is_in_m (held_state (shape_of b) a.tags h j) && is_in_m (held_state (shape_of b) b.tags h j)) (λ h. is_in_m (held_state (shape_of a) a.tags h j))
-      (λ h. ap (λ (n : ℕ). is_in_m (state_in j (a.tags h (j.0 % n))) && is_in_m (held_state (shape_of b) b.tags h j)) numbers.sets ∙
+      (λ h. ap (λ (n : ℕ). is_in_m (lookup j (a.tags h (j.0 % n))) && is_in_m (held_state (shape_of b) b.tags h j)) numbers.sets ∙
       ap (λ o. is_in_m (held_state (shape_of a) a.tags h j) && is_in_m o) (state h) ∙ and_same (is_in_m (held_state (shape_of a) a.tags h j))) ∙
       ap (λ (n : ℕ). some_below n (λ h. is_in_m (held_state (shape_of a) a.tags h j))) numbers.holders in
       told.0 ∙ ⊎_elim
@@ -73,9 +74,9 @@ one_line a b after bytes l is is_new numbers tags view none here states others =
     not_in_m (Some S) apart = refl
 
     state_b : (j : Line) (k : ℕ) → held_state (shape_of b) b.tags k j ≡ held_state (shape_of a) after k j
-    state_b j k = ap (λ (n : ℕ). state_in j (b.tags k (j.0 % n))) numbers.sets ∙ ap (λ (t : Tags). state_in j (t k (j.0 % a.sets))) tags
+    state_b j k = ap (λ (n : ℕ). lookup j (b.tags k (j.0 % n))) numbers.sets ∙ ap (λ (t : Tags). lookup j (t k (j.0 % a.sets))) tags
 
-never_m : (l : Line) (tags : List Tag) → state_in l (cleaned_line l tags) ≢ Some M
+never_m : (l : Line) (tags : List Tag) → lookup l (cleaned_line l tags) ≢ Some M
 never_m l [] is = cc
 never_m l (tag ∷ tags) is =
     ⊎_elim
@@ -88,14 +89,14 @@ never_m l (tag ∷ tags) is =
     never E is = cc
     never S is = cc
 
-state_in-cleaned_other : (l j : Line) (tags : List Tag) → j.0 ≢ l.0 → state_in j (cleaned_line l tags) ≡ state_in j tags
-state_in-cleaned_other l j [] apart = refl
-state_in-cleaned_other l j (tag ∷ tags) apart =
+lookup-cleaned_other : (l j : Line) (tags : List Tag) → j.0 ≢ l.0 → lookup j (cleaned_line l tags) ≡ lookup j tags
+lookup-cleaned_other l j [] apart = refl
+lookup-cleaned_other l j (tag ∷ tags) apart =
     ⊎_elim
     (λ (on : eqb tag.0.0 l.0 ≡ true).
     let off : eqb tag.0.0 j.0 ≡ false = test_off tag.0.0 j.0 (λ same. apart (sym same ∙ eqb-true _ _ on)) in
-    rw (on, off) (state_in-cleaned_other l j tags apart))
-    (λ (no : eqb tag.0.0 l.0 ≡ false). rw no (ap (λ rest. cond (eqb tag.0.0 j.0) (Some tag.1) rest) (state_in-cleaned_other l j tags apart)))
+    rw (on, off) (lookup-cleaned_other l j tags apart))
+    (λ (no : eqb tag.0.0 l.0 ≡ false). rw no (ap (λ rest. cond (eqb tag.0.0 j.0) (Some tag.1) rest) (lookup-cleaned_other l j tags apart)))
     (cases_Bool (eqb tag.0.0 l.0))
 
 -- the bytes of a line of users' view
@@ -119,7 +120,7 @@ flushed_steps b l is is_new there =
     (record { line_bytes = refl; base = refl; holders = refl; sets = refl; ways = refl; size = refl }) refl refl
     (λ k. never_m l (b.tags k (l.0 % b.sets)))
     (bytes_of_line-with_line b.base b.line_bytes l.0 b.copies (view_of b l) (own_memory b is) (own_range b l is there) long)
-    (λ j k apart. state_in-cleaned_other l j (b.tags k (j.0 % b.sets)) apart)
+    (λ j k apart. lookup-cleaned_other l j (b.tags k (j.0 % b.sets)) apart)
     (λ j within apart. (bytes_of_line-with_line_other b.base b.line_bytes j.0 l.0 b.copies (view_of b l) (own_memory b is) (own_range b j is within) (own_range b l is there) long apart, refl))
 
 pub merged_steps : (b : BackingView) (l : Line) (bytes : List ℕ) (mask : ℕ) → IsBacking b → IsBacking (merged b l bytes mask) → IsInRange b l → length bytes ≡ 128 → StepsTo (after_merge b.tags l) (merged b l bytes mask).view b (merged b l bytes mask)
@@ -130,10 +131,10 @@ merged_steps b l bytes mask is is_new there full =
     let span = line_bytes_in_memory b.base (length b.view) b.line_bytes l.0 is.memory.size is.memory.whole_base is.memory.whole_bytes there in
     one_line b (merged b l bytes mask) (after_merge b.tags l) (merged b l bytes mask).view l is is_new
     (record { line_bytes = refl; base = refl; holders = refl; sets = refl; ways = refl; size = length-with_line b.base b.line_bytes l.0 b.view new (omega arith) long }) refl refl
-    (λ k m. let both : None ≡ Some M = sym (state_in-without l (b.tags k (l.0 % b.sets))) ∙ m in cc)
+    (λ k m. let both : None ≡ Some M = sym (lookup-without_line l (b.tags k (l.0 % b.sets))) ∙ m in cc)
     (bytes_of_line-with_line b.base b.line_bytes l.0 b.copies new (own_memory b is) (own_range b l is there) long ∙
     sym (bytes_of_line-with_line b.base b.line_bytes l.0 b.view new is.memory there long))
-    (λ j k apart. state_in-without_other l j (b.tags k (j.0 % b.sets)) apart)
+    (λ j k apart. lookup-without_line_other l j (b.tags k (j.0 % b.sets)) apart)
     (λ j within apart. (
       bytes_of_line-with_line_other b.base b.line_bytes j.0 l.0 b.copies new (own_memory b is) (own_range b j is within) (own_range b l is there) long apart,
       bytes_of_line-with_line_other b.base b.line_bytes j.0 l.0 b.view new is.memory within there long apart,

@@ -22,7 +22,7 @@ use Rattle.line_memory.specs.Backing.{view_of, HasSameNumbers, shape_of}
 use Rattle.line_memory.specs.Access.{after_store}
 use Rattle.coherent_mem.specs.Moves.{IsAlone}
 use Rattle.coherent_mem.specs.Parts.{Parts, AreParts, cache_at, held, seen, shown}
-use Rattle.coherent_mem.specs.Steps.{StepsTo, IsAccess, view_stored}
+use Rattle.coherent_mem.specs.Steps.{StepsTo, IsAccessTo, view_stored}
 use Rattle.coherent_mem.proofs.PartFacts.{IsRowed, row_in, rowed_line}
 use Rattle.coherent_mem.proofs.ViewFacts.{content_length, view_of_shown}
 use Rattle.coherent_mem.proofs.MissFacts.{no_content}
@@ -45,7 +45,7 @@ pub record IsStoreStep (p q : Parts) (h addr : ℕ) (view : List ℕ) : Type 0 w
   pub are : AreParts q
   pub steps : StepsTo (after_store (shape_of (shown p)) (shown p).tags h (line_at (shown p).line_bytes addr)) view (shown p) (shown q)
 
-access_same : (p u : Parts) (addr size : ℕ) → HasSameNumbers (shown p) (shown u) → IsAccess (shown p) addr size → IsAccess (shown u) addr size
+access_same : (p u : Parts) (addr size : ℕ) → HasSameNumbers (shown p) (shown u) → IsAccessTo (shown p) addr size → IsAccessTo (shown u) addr size
 access_same p u addr size same is =
     let base = same.base in
     let long = same.size in
@@ -67,7 +67,7 @@ step_of p u t h addr bytes view are inside there alone put seen_is =
     }
 
 -- a number is stored
-pub stored_step : (p u : Parts) (h addr size value : ℕ) (a : Content) (cache : Contents) (rows : Rows) → AreParts p → h < length p.caches → IsAccess (shown p) addr size → IsAlone h (line_at (shown u).line_bytes addr) p u → held u (line_at (shown u).line_bytes addr) h ≡ Some a
+pub stored_step : (p u : Parts) (h addr size value : ℕ) (a : Content) (cache : Contents) (rows : Rows) → AreParts p → h < length p.caches → IsAccessTo (shown p) addr size → IsAlone h (line_at (shown u).line_bytes addr) p u → held u (line_at (shown u).line_bytes addr) h ≡ Some a
     → cache ≡ with_set (cache_at u h) (line_at (shown u).line_bytes addr) (in_front (cache_at u h) (line_at (shown u).line_bytes addr) (record { state = M; bytes = stored a.bytes (line_offset addr u.memory.line_bytes) size value }))
     → IsRowed u.rows (line_at (shown u).line_bytes addr) rows → row_of rows (line_at (shown u).line_bytes addr) ≡ Owner h → IsStoreStep p (moved u h cache u.memory rows) h addr (view_stored (shown p) addr size value)
 stored_step p u h addr size value a cache rows are inside access alone at cached rowed row =
@@ -86,7 +86,7 @@ stored_step p u h addr size value a cache rows are inside access alone at cached
     step_of p u t h addr bytes (view_stored (shown p) addr size value) are inside (access_line p are addr size access) alone put view
 
 -- the line is modified with the bytes that it has
-pub owned_step : (p u : Parts) (h addr size : ℕ) (a : Content) (cache : Contents) (rows : Rows) → AreParts p → h < length p.caches → IsAccess (shown p) addr size → IsAlone h (line_at (shown u).line_bytes addr) p u → held u (line_at (shown u).line_bytes addr) h ≡ Some a
+pub owned_step : (p u : Parts) (h addr size : ℕ) (a : Content) (cache : Contents) (rows : Rows) → AreParts p → h < length p.caches → IsAccessTo (shown p) addr size → IsAlone h (line_at (shown u).line_bytes addr) p u → held u (line_at (shown u).line_bytes addr) h ≡ Some a
     → cache ≡ with_set (cache_at u h) (line_at (shown u).line_bytes addr) (in_front (cache_at u h) (line_at (shown u).line_bytes addr) (record { state = M; bytes = a.bytes }))
     → IsRowed u.rows (line_at (shown u).line_bytes addr) rows → row_of rows (line_at (shown u).line_bytes addr) ≡ Owner h → IsStoreStep p (moved u h cache u.memory rows) h addr (shown p).view
 owned_step p u h addr size a cache rows are inside access alone at cached rowed row =
@@ -124,7 +124,7 @@ own_row u h l rows are inside there rowed =
     let row_there = row_in u are l there in
     (rw rowed (rowed_line u.rows l (Owner h) are.rows row_there small), ap (λ d. row_of d l) rowed ∙ row_of-with_row_same u.rows l (Owner h) row_there)
 
-pub storing : (p u : Parts) (h addr size value : ℕ) (l : Line) (was cache : Contents) (rows : Rows) → AreParts p → h < length p.caches → IsAccess (shown p) addr size → l ≡ line_at (shown p).line_bytes addr → IsAlone h l p u → IsStoring u h addr size value l was cache rows
+pub storing : (p u : Parts) (h addr size value : ℕ) (l : Line) (was cache : Contents) (rows : Rows) → AreParts p → h < length p.caches → IsAccessTo (shown p) addr size → l ≡ line_at (shown p).line_bytes addr → IsAlone h l p u → IsStoring u h addr size value l was cache rows
     → IsStoreStep p (moved u h cache u.memory rows) h addr (view_stored (shown p) addr size value)
 storing p u h addr size value l was cache rows are inside access line alone does =
     let k : Line = line_at (shown u).line_bytes addr in
@@ -151,7 +151,7 @@ pub record IsOwning (u : Parts) (h : ℕ) (l : Line) (was cache : Contents) (row
   pub put : cache ≡ with_set was l (in_front was l (record { state = M; bytes = bytes_of was l }))
   pub rowed : rows ≡ with_row u.rows l (Owner h)
 
-pub owning : (p u : Parts) (h addr size : ℕ) (l : Line) (was cache : Contents) (rows : Rows) → AreParts p → h < length p.caches → IsAccess (shown p) addr size → l ≡ line_at (shown p).line_bytes addr → IsAlone h l p u → IsOwning u h l was cache rows
+pub owning : (p u : Parts) (h addr size : ℕ) (l : Line) (was cache : Contents) (rows : Rows) → AreParts p → h < length p.caches → IsAccessTo (shown p) addr size → l ≡ line_at (shown p).line_bytes addr → IsAlone h l p u → IsOwning u h l was cache rows
     → IsStoreStep p (moved u h cache u.memory rows) h addr (shown p).view
 owning p u h addr size l was cache rows are inside access line alone does =
     let k : Line = line_at (shown u).line_bytes addr in
@@ -199,7 +199,7 @@ pub record IsStoreHit (p q : Parts) (h addr size value : ℕ) (state : Mesi) : T
   pub steps : StepsTo (after_store (shape_of (shown p)) (shown p).tags h (line_at (shown p).line_bytes addr)) (view_stored (shown p) addr size value) (shown p) (shown q)
   pub notes : access_notes (shape_of (shown p)) (shown p).tags h (line_at (shown p).line_bytes addr) true ≡ []
 
-pub hit_store : (p : Parts) (h addr size value : ℕ) (was : Contents) (found : Option Mesi) (cache : Contents) (state : Mesi) → AreParts p → h < length p.caches → IsAccess (shown p) addr size → IsStoreTry p h addr size value was found cache → found ≡ Some state → state ≢ S → IsStoreHit p (moved p h cache p.memory p.rows) h addr size value state
+pub hit_store : (p : Parts) (h addr size value : ℕ) (was : Contents) (found : Option Mesi) (cache : Contents) (state : Mesi) → AreParts p → h < length p.caches → IsAccessTo (shown p) addr size → IsStoreTry p h addr size value was found cache → found ≡ Some state → state ≢ S → IsStoreHit p (moved p h cache p.memory p.rows) h addr size value state
 hit_store p h addr size value was found cache state are inside access does is owned =
     let l : Line = line_at (shown p).line_bytes addr in
     let same : was ≡ cache_at p h = read_cache p h was inside does.read in

@@ -9,7 +9,7 @@ use Rattle.conda_base.specs.declared.Mesi.{Mesi}
 use Rattle.conda_base.specs.declared.Mesi.TheVariants.{S}
 use Rattle.set_assoc.specs.Entries.{lookup, without, replaced, AreEntries}
 use Rattle.cpu_cache.specs.Contents.{Content, Contents, content_of, set_list, tag_of, tags_of, with_set, empty}
-use Rattle.line_memory.specs.Tags.{Tag, state_in, without_line, held_state}
+use Rattle.line_memory.specs.Tags.{Tag, without_line, held_state}
 use Rattle.line_memory.specs.Access.{shared_line}
 use Rattle.line_memory.specs.Backing.{shape_of}
 use Rattle.coherent_mem.specs.Parts.{Parts, AreParts, cache_at, held, shown}
@@ -22,10 +22,10 @@ use Rattle.conda_base.proofs.LineLemmas.{line_by_number}
 abbrev pub state_of_content : Content → Mesi
 state_of_content content = content.state
 
-pub state_in-map : (l : Line) (entries : List (Line × Content)) → state_in l (map tag_of entries) ≡ option_map state_of_content (lookup l entries)
-state_in-map l [] = refl
-state_in-map l (entry ∷ rest) =
-    ⊎_elim (λ yes. rw yes refl) (λ no. rw no (state_in-map l rest)) (cases_Bool (eqb entry.0.0 l.0))
+pub lookup-map : (l : Line) (entries : List (Line × Content)) → lookup l (map tag_of entries) ≡ option_map state_of_content (lookup l entries)
+lookup-map l [] = refl
+lookup-map l (entry ∷ rest) =
+    ⊎_elim (λ yes. rw yes refl) (λ no. rw no (lookup-map l rest)) (cases_Bool (eqb entry.0.0 l.0))
 
 -- a tag's state is that of what the holder has
 pub state_shown : (p : Parts) → AreParts p → (l : Line) (h : ℕ) → held_state (shape_of (shown p)) (shown p).tags h l ≡ option_map state_of_content (held p l h)
@@ -33,10 +33,10 @@ state_shown p are l h =
     ⊎_elim
     (λ (inside : h < length p.caches).
     let fits = are.fits h inside in
-    ap (λ n. state_in l (tags_of (cache_at p h) (l.0 % n))) (sym fits.sets) ∙ state_in-map l (set_list (cache_at p h) l))
+    ap (λ n. lookup l (tags_of (cache_at p h) (l.0 % n))) (sym fits.sets) ∙ lookup-map l (set_list (cache_at p h) l))
     (λ (past : length p.caches ≤ h).
     let none : cache_at p h ≡ empty 0 0 0 = get_or_past p.caches h (empty 0 0 0) past in
-    ap (λ (c : Contents). state_in l (tags_of c (l.0 % p.sets))) none ∙ sym (ap (λ (c : Contents). option_map state_of_content (content_of c l)) none))
+    ap (λ (c : Contents). lookup l (tags_of c (l.0 % p.sets))) none ∙ sym (ap (λ (c : Contents). option_map state_of_content (content_of c l)) none))
     (cases_lt h (length p.caches))
 
 pub some_state : (o : Option Content) (content : Content) → o ≡ Some content → option_map state_of_content o ≡ Some content.state

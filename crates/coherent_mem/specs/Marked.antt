@@ -31,6 +31,6 @@ pub record AreMarked (b : BackingView) (marks : List Bool) : Type 0 where
       slice_index_or marks (h * b.sets + l.0 % b.sets) false ≡ true
 
 -- the parts fit together, with so many bytes a line, and the marks are theirs
-abbrev pub IsWhole : ℕ → List Bool → Parts → Type 0
-IsWhole line_bytes marks p =
+abbrev pub AreMarkedParts : ℕ → List Bool → Parts → Type 0
+AreMarkedParts line_bytes marks p =
     (line_bytes ≡ p.memory.line_bytes) × AreParts p × AreMarked (shown p) marks

@@ -96,9 +96,9 @@ pub record IsShared (l : Line) (state : Mesi) (old new : Parts) : Type 0 where
       state ≡ (if some_below (length old.caches) (λ k. is_some (held old l k)) then S else E)
 
 -- the last line of a full set has left it
-abbrev pub HasRoom : ℕ → Line → Parts → Parts → Option Tag → Type 0
-HasRoom h l old new None = new ≡ old
-HasRoom h l old new (Some tag) =
+abbrev pub MakesRoom : ℕ → Line → Parts → Parts → Option Tag → Type 0
+MakesRoom h l old new None = new ≡ old
+MakesRoom h l old new (Some tag) =
     IsMoved (take (old.ways - 1) (list_at (shown old) h l)) (written_back (shown old) tag.0) h l
     old new
 

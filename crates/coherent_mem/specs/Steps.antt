@@ -25,7 +25,7 @@ pub record IsCoherent (b : BackingView) : Type 0 where
   pub owners : HasSingleOwners (shape_of b) b.tags
 
 -- an aligned access of 1, 2 or 4 bytes in memory
-pub record IsAccess (b : BackingView) (addr n : ℕ) : Type 0 where
+pub record IsAccessTo (b : BackingView) (addr n : ℕ) : Type 0 where
   pub size : IsAccessSize n
   pub aligned : addr % n ≡ 0
   pub from : b.base ≤ addr

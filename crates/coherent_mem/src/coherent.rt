@@ -14,7 +14,7 @@ ghost use Rattle.line_memory.specs.Memory.{IsMemory};
 ghost use Rattle.line_memory.specs.Notes.{access_notes, all_noted};
 ghost use Rattle.coherent_mem.specs.HandedOut.{IsCacheOf, IsDirectoryOf, memory_of};
 ghost use Rattle.coherent_mem.specs.Parts.{shown};
-ghost use Rattle.coherent_mem.specs.Steps.{IsAccess, IsCoherent, StepsTo, unused, value_seen, view_stored};
+ghost use Rattle.coherent_mem.specs.Steps.{IsAccessTo, IsCoherent, StepsTo, unused, value_seen, view_stored};
 
 use conda_base::{Line, Mesi, line_of, offset_of, read_value};
 use cpu_cache::CpuCache;
@@ -41,13 +41,13 @@ pub struct Coherent {
 
 impl Model for Coherent {
     ghost use Rattle.coherent_mem.specs.Parts.{Parts, parts_from};
-    ghost use Rattle.coherent_mem.specs.Marked.{IsWhole};
+    ghost use Rattle.coherent_mem.specs.Marked.{AreMarkedParts};
 
     ghost Value = { Parts };
 
     ghost view = { λ c. parts_from c.sets c.ways c.memory c.directory c.caches.items };
 
-    ghost invariant = { λ c. IsWhole c.line_bytes c.marks.items
+    ghost invariant = { λ c. AreMarkedParts c.line_bytes c.marks.items
         (parts_from c.sets c.ways c.memory c.directory c.caches.items) };
 }
 
@@ -93,7 +93,7 @@ impl Coherent {
     /// The number of 1, 2 or 4 bytes that users see at an aligned address, by a load of a holder.
     pub fn load(&mut self, h: u8, addr: u32, size: u8, log: &mut Traffic) -> u32
         requires holder { h < (shown self.old).holders }
-        requires access { IsAccess (shown self.old) addr size }
+        requires access { IsAccessTo (shown self.old) addr size }
         ensures value { result ≡ value_seen (shown self.old) addr size }
         ensures steps { let b = shown self.old in
             StepsTo (after_load (shape_of b) b.tags h (line_at b.line_bytes addr)) b.view
@@ -112,7 +112,7 @@ impl Coherent {
     /// Stores the low 1, 2 or 4 bytes of a number at an aligned address, by a holder.
     pub fn store(&mut self, h: u8, addr: u32, size: u8, value: u32, log: &mut Traffic)
         requires holder { h < (shown self.old).holders }
-        requires access { IsAccess (shown self.old) addr size }
+        requires access { IsAccessTo (shown self.old) addr size }
         ensures steps { let b = shown self.old in
             StepsTo (after_store (shape_of b) b.tags h (line_at b.line_bytes addr))
             (view_stored b addr size value) b (shown self.new) }
@@ -136,7 +136,7 @@ impl Coherent {
     /// in M from then on. The atomic's store comes after it.
     pub fn take(&mut self, h: u8, addr: u32, log: &mut Traffic) -> u32
         requires holder { h < (shown self.old).holders }
-        requires access { IsAccess (shown self.old) addr 4 }
+        requires access { IsAccessTo (shown self.old) addr 4 }
         ensures value { result ≡ value_seen (shown self.old) addr 4 }
         ensures steps { let b = shown self.old in
             StepsTo (after_store (shape_of b) b.tags h (line_at b.line_bytes addr)) b.view

@@ -2,7 +2,7 @@
 ghost use Rattle.std.specs.Prelude.{◌≡◌, ◌+◌, ◌%◌, ◌<◌, ◌≤◌, IfOk};
 ghost use Rattle.conda_base.specs.Lines.{IsLineSize};
 ghost use Rattle.coherent_mem.specs.Parts.{shown};
-ghost use Rattle.coherent_mem.specs.Tried.{IsTried};
+ghost use Rattle.coherent_mem.specs.Tried.{IsTestMemory};
 
 use crate::Coherent;
 use arrayvec::ArrayVec;
@@ -20,7 +20,7 @@ fn made(rt: &HostRuntime, line_bytes: u32, ways: u32) -> Result<Coherent, AllocE
     requires size { IsLineSize line_bytes }
     requires some { 0 < ways }
     requires few { ways ≤ 8 }
-    ensures { IfOk result (λ m. IsTried (shown m)) }
+    ensures { IfOk result (λ m. IsTestMemory (shown m)) }
 {
     let bytes = vec![in rt.alloc(); 0; 4096]?;
     let code = Code::new(0, bytes, ArrayVec::new());
@@ -28,47 +28,47 @@ fn made(rt: &HostRuntime, line_bytes: u32, ways: u32) -> Result<Coherent, AllocE
 }
 
 fn put_byte(memory: &mut Coherent, h: u8, addr: u32, value: u32, log: &mut Traffic)
-    requires tried { IsTried (shown memory.old) }
+    requires tried { IsTestMemory (shown memory.old) }
     requires holder { h < 2 }
     requires within { addr + 1 ≤ 4096 }
-    ensures { IsTried (shown memory.new) }
+    ensures { IsTestMemory (shown memory.new) }
 {
     memory.store(h, addr, 1, value, log);
 }
 
 fn put(memory: &mut Coherent, h: u8, addr: u32, value: u32, log: &mut Traffic)
-    requires tried { IsTried (shown memory.old) }
+    requires tried { IsTestMemory (shown memory.old) }
     requires holder { h < 2 }
     requires aligned { addr % 4 ≡ 0 }
     requires within { addr + 4 ≤ 4096 }
-    ensures { IsTried (shown memory.new) }
+    ensures { IsTestMemory (shown memory.new) }
 {
     memory.store(h, addr, 4, value, log);
 }
 
 fn get(memory: &mut Coherent, h: u8, addr: u32, log: &mut Traffic) -> u32
-    requires tried { IsTried (shown memory.old) }
+    requires tried { IsTestMemory (shown memory.old) }
     requires holder { h < 2 }
     requires aligned { addr % 4 ≡ 0 }
     requires within { addr + 4 ≤ 4096 }
-    ensures { IsTried (shown memory.new) }
+    ensures { IsTestMemory (shown memory.new) }
 {
     memory.load(h, addr, 4, log)
 }
 
 fn taken(memory: &mut Coherent, h: u8, addr: u32, log: &mut Traffic) -> u32
-    requires tried { IsTried (shown memory.old) }
+    requires tried { IsTestMemory (shown memory.old) }
     requires holder { h < 2 }
     requires aligned { addr % 4 ≡ 0 }
     requires within { addr + 4 ≤ 4096 }
-    ensures { IsTried (shown memory.new) }
+    ensures { IsTestMemory (shown memory.new) }
 {
     memory.take(h, addr, log)
 }
 
 // The most recent line of a holder.
 fn first(memory: &Coherent, h: u8) -> Option<(Line, Mesi)>
-    requires tried { IsTried (shown memory.now) }
+    requires tried { IsTestMemory (shown memory.now) }
     requires holder { h < 2 }
 {
     memory.at(h, 0, 0)
@@ -76,7 +76,7 @@ fn first(memory: &Coherent, h: u8) -> Option<(Line, Mesi)>
 
 // The first two bytes of a line as users see it, and of memory's own copy of it.
 fn begin(memory: &Coherent, l: Line) -> ([u8; 2], [u8; 2])
-    requires tried { IsTried (shown memory.now) }
+    requires tried { IsTestMemory (shown memory.now) }
     requires line { l.0 < 32 }
 {
     let mut seen = [0; 128];
@@ -87,21 +87,21 @@ fn begin(memory: &Coherent, l: Line) -> ([u8; 2], [u8; 2])
 }
 
 fn row(memory: &Coherent, l: Line) -> Row
-    requires tried { IsTried (shown memory.now) }
+    requires tried { IsTestMemory (shown memory.now) }
     requires line { l.0 < 32 }
 {
     memory.directory().row(l)
 }
 
 fn state(memory: &Coherent, h: u8, l: Line) -> Option<Mesi>
-    requires tried { IsTried (shown memory.now) }
+    requires tried { IsTestMemory (shown memory.now) }
     requires holder { h < 2 }
 {
     memory.cache(h).state(l)
 }
 
 fn own_byte(memory: &Coherent, l: Line) -> u8
-    requires tried { IsTried (shown memory.now) }
+    requires tried { IsTestMemory (shown memory.now) }
     requires line { l.0 < 32 }
 {
     let mut own = [0; 128];

@@ -8,7 +8,7 @@ use Rattle.schedule_log.specs.Verdict.{most_events}
 use Rattle.command_words.specs.declared.table.Kind.TheVariants as kind
 use Rattle.command_words.specs.declared.command.Command.{Command}
 use Rattle.command_words.specs.Options.{Given, Known, are_different, are_options, file_values, fits, has_place, is_option, one_number, options_of, pair, suits, values_of}
-use Rattle.command_words.specs.Words.{AreApart, Asked, Run, SelfRun, Asm, Dis, Files, HasAllowedValues, asked, asked_by, command_named, files_in, free_file, needed_file, needed_number, amount_in, name_in, program_files_in, program_options, run_files, run_options, self_options, self_run_in, where_allowed}
+use Rattle.command_words.specs.Words.{AreApart, Asked, Run, SelfRun, Asm, Dis, HasAllowedValues, asked, asked_by, command_named, files_in, free_file, needed_file, needed_number, amount_in, name_in, program_files_in, program_options, run_options, self_options, self_run_in, where_allowed}
 use Rattle.command_words.proofs.ValueFacts.{in_range, apart_free, apart_needed, both, no_number, of_kind, one_number_is}
 
 -- ---- what a table allows
@@ -184,12 +184,3 @@ pub sound_result : (name : List ℕ) (words : List (List ℕ)) (r : Option Comma
     → IfSome r (λ c. HasAllowedValues (command_named c))
 sound_result name words None h = tt
 sound_result name words (Some c) h = sound_by name (options_of words) (command_named c) h
-
--- the files of a run are apart
-pub run_is_apart : (words : List (List ℕ)) (files : Files) → run_files words ≡ Some files → AreApart files
-run_is_apart words files h = go (asked words) refl
-  where
-    go : (o : Option Asked) → asked words ≡ o → AreApart files
-    go (Some (Run f)) e = let same : Some f ≡ Some files = rw e at h in subst (λ (x : Files). AreApart x) (let s = same in cc) (sound words (Run f) e)
-    go (Some other) e = let no : None ≡ Some files = rw e at h in cc
-    go None e = let no : None ≡ Some files = rw e at h in cc

@@ -9,7 +9,7 @@ use Rattle.std.proofs.lemmas.Option.{cond_some}
 use Rattle.std.proofs.lemmas.Slice.Eq.{bytes_eq-Decides}
 use Rattle.conda_base.specs.Digits.{number_after}
 use Rattle.command_words.specs.declared.table.Kind.{Kind}
-use Rattle.command_words.specs.Options.{Given, Known, are_different, differs, file_values, fits, is_numeral, is_option, names_file, number_in, one_number, pair, suits, value_of, values_of}
+use Rattle.command_words.specs.Options.{Given, Known, are_different, differs, file_values, fits, is_option, names_file, number_in, one_number, pair, suits, value_of, values_of}
 use Rattle.command_words.specs.Words.{name_in}
 
 -- both parts of a test that passes

@@ -1,9 +1,9 @@
 -- The options that words give, and those that a command takes.
-use Rattle.std.specs.Prelude.{ℕ, Bool, true, false, not, ◌&&◌, ◌||◌, ◌==◌, List, [], ◌∷◌, length, Option, Some, None, slice_get, slice_index, if◌then◌else◌, nat_le}
+use Rattle.std.specs.Prelude.{ℕ, Bool, true, false, not, ◌&&◌, ◌||◌, ◌==◌, List, [], ◌∷◌, Option, Some, None, slice_get, if◌then◌else◌, nat_le}
 use Rattle.std.specs.List.{before_first, after_first, list_any, list_all}
 use Rattle.std.specs.Option.{is_some}
 use Rattle.std.specs.Str.{bytes_eq}
-use Rattle.conda_base.specs.Digits.{is_digit, number_after}
+use Rattle.conda_base.specs.Digits.{is_numeral, number_after}
 use Rattle.command_words.specs.declared.table.Kind.{Kind}
 use Rattle.command_words.specs.declared.table.Kind.TheVariants as kind
 use Rattle.command_words.specs.declared.table.KnownOption.{KnownOption}
@@ -72,12 +72,6 @@ known o = record { name = o.name.now; is_needed = o.is_needed; kind = o.kind }
 abbrev pub is_value : List ℕ → Bool
 is_value [] = false
 is_value (b ∷ bs) = not (b == 45)
-
--- decimal digits, with no leading zero but where they are one digit
-abbrev pub is_numeral : List ℕ → Bool
-is_numeral text =
-    nat_le 1 (length text) && list_all is_digit text
-    && (length text == 1 || not (slice_index text 0 == 48))
 
 -- the number that a value is, where it lies in this range
 abbrev pub number_in : ℕ → ℕ → List ℕ → Option ℕ

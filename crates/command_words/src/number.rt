@@ -1,22 +1,9 @@
 // Numbers in words.
 ghost use Rattle.std.specs.Prelude.{◌≡◌, ◌<◌, ◌≤◌, IfSome, true, MatchOption};
-ghost use Rattle.std.specs.List.{list_all};
-ghost use Rattle.conda_base.specs.Digits.{is_digit, number_after};
-ghost use Rattle.command_words.specs.Options.{is_numeral, number_in};
+ghost use Rattle.conda_base.specs.Digits.{number_after};
+ghost use Rattle.command_words.specs.Options.{number_in};
 
-use conda_base::is_decimal;
-
-fn is_numeral(text: &[u8]) -> bool
-    ensures { result ≡ is_numeral text.now }
-{
-    !text.is_empty() && are_digits(text) && (text.len() == 1 || text[0] != b'0')
-}
-
-fn are_digits(text: &[u8]) -> bool
-    ensures { result ≡ list_all is_digit text.now }
-{
-    text.iter().all(|byte| is_decimal(*byte))
-}
+use conda_base::is_numeral;
 
 // The number that digits write, where it is no more than this.
 fn number_up_to(digits: &[u8], most: u64) -> Option<u64>

@@ -1,9 +1,16 @@
 -- Numbers as digits.
-use Rattle.std.specs.Prelude.{ℕ, ◌+◌, ◌-◌, ◌*◌, ◌/◌, ◌%◌, ◌^◌, ◌&&◌, Bool, List, [], ◌∷◌, if◌then◌else◌, nat_le, nat_lt}
+use Rattle.std.specs.Prelude.{ℕ, ◌+◌, ◌-◌, ◌*◌, ◌/◌, ◌%◌, ◌^◌, ◌==◌, ◌&&◌, ◌||◌, not, Bool, List, [], ◌∷◌, length, slice_index, if◌then◌else◌, nat_le, nat_lt}
+use Rattle.std.specs.List.{list_all}
 
 -- one of the digits 0 to 9
 abbrev pub is_digit : ℕ → Bool
 is_digit byte = nat_le 48 byte && nat_le byte 57
+
+-- decimal digits, with no leading zero but where they are one digit
+abbrev pub is_numeral : List ℕ → Bool
+is_numeral text =
+    nat_le 1 (length text) && list_all is_digit text
+    && (length text == 1 || not (slice_index text 0 == 48))
 
 -- the number that digits write after a number that stands before them
 abbrev pub number_after : ℕ → List ℕ → ℕ

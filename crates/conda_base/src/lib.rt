@@ -13,4 +13,6 @@ pub use bytes::{read_value, write_value};
 pub use line::{Line, line_of, offset_of};
 pub use marks::put_marked;
 pub use mesi::Mesi;
-pub use text::{digit_of, is_decimal, push_bytes, push_decimal, word_digits};
+pub use text::{
+    are_digits, digit_of, is_decimal, is_numeral, push_bytes, push_decimal, word_digits,
+};

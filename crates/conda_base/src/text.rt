@@ -1,8 +1,9 @@
 // Text in buffers of a fixed size, which takes no memory, and digits.
 ghost use Rattle.std.specs.Prelude.{◌≡◌, ◌+◌, ◌<◌, ◌≤◌, ◌++◌, length};
 ghost use Rattle.std.specs.Fmt.{decimal};
+ghost use Rattle.std.specs.List.{list_all};
 ghost use Rattle.arrayvec.specs.ArrayVec.{array_vec_len};
-ghost use Rattle.conda_base.specs.Digits.{is_digit, hex_digit, hex_word};
+ghost use Rattle.conda_base.specs.Digits.{is_digit, is_numeral, hex_digit, hex_word};
 
 use arrayvec::ArrayVec;
 use itoa::Buffer;
@@ -31,6 +32,20 @@ pub fn is_decimal(byte: u8) -> bool
     ensures { result ≡ is_digit byte }
 {
     byte >= b'0' && byte <= b'9'
+}
+
+/// Whether each byte is one of the digits 0 to 9.
+pub fn are_digits(text: &[u8]) -> bool
+    ensures { result ≡ list_all is_digit text.now }
+{
+    text.iter().all(|byte| is_decimal(*byte))
+}
+
+/// Whether bytes are a decimal number with no leading zeros.
+pub fn is_numeral(text: &[u8]) -> bool
+    ensures { result ≡ is_numeral text.now }
+{
+    !text.is_empty() && are_digits(text) && (text.len() == 1 || text[0] != b'0')
 }
 
 /// A lower-case hexadecimal digit.
@@ -89,5 +104,10 @@ mod tests {
         assert_eq!(rt; digit_of(15), b'f');
         assert!(rt; is_decimal(b'9'));
         assert!(rt; !is_decimal(b':'));
+        assert!(rt; are_digits(b"0123456789"));
+        assert!(rt; !are_digits(b"0x1"));
+        assert!(rt; is_numeral(b"0"));
+        assert!(rt; !is_numeral(b"00"));
+        assert!(rt; !is_numeral(b""));
     }
 }

@@ -22,7 +22,7 @@ use Rattle.conda_engine.specs.Answers.{Answers}
 use Rattle.conda_engine.specs.Assembling.{IsAsmEnd, IsAssembledImage, SaysImage, image_or_bad, image_read, source_limit}
 use Rattle.conda_engine.specs.LastFile.{IsFileEnd, file_command, text_outcome}
 use Rattle.conda_engine.specs.Making.{IsMadeText, IsMakeError}
-use Rattle.conda_engine.specs.TextLaws.{HasLoadableImageAtDone, IsLoadable}
+use Rattle.conda_engine.specs.TextLaws.{HasLoadableImageAtDone, IsNeverRefused}
 use Rattle.conda_engine.proofs.AnswerFacts.{told_after}
 use Rattle.conda_engine.proofs.LastFileFacts.{holds_text}
 
@@ -61,7 +61,7 @@ says_read text = go (first_bad (source_in text)) refl
 
 -- ---- what is assembled can be loaded
 
-loadable : (text : List ℕ) (at : ℕ) (words : List ℕ) → Assembled text at words → IsLoadable at words
+loadable : (text : List ℕ) (at : ℕ) (words : List ℕ) → Assembled text at words → IsNeverRefused at words
 loadable text at words said base size has =
     let program : IsProgram at words = assembled_is text at words said in
     refusal-plain at base size words (record { some = program.some; aligned = program.aligned; from = has.from; to = has.to }) has.ends has.fits

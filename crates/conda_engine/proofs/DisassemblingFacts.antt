@@ -1,7 +1,6 @@
 -- The words of bytes, and what `dis` makes of a program.
-use Rattle.std.proofs.Common.{◌≡◌, ◌≤◌, ◌<◌, ℕ, IsTrue, List, [], ◌∷◌, length, take, drop, refl, sym, ◌∙◌, ap, subst, inl, inr, arith}
+use Rattle.std.proofs.Common.{◌≡◌, ◌≤◌, ◌<◌, ℕ, IsTrue, List, [], ◌∷◌, sym, ◌∙◌, ap, subst, inl, inr}
 use Rattle.std.specs.Prelude.{Some}
-use Rattle.conda_base.specs.Bytes.{number_of}
 use Rattle.conda_host.specs.declared.outside.Role.TheVariants as role
 use Rattle.conda_host.specs.State.{HostState, IsReading}
 use Rattle.command_run.specs.Driving.{bytes_of}
@@ -9,27 +8,13 @@ use Rattle.command_words.specs.Words.{ProgramFiles}
 use Rattle.conda_engine.specs.declared.status.Status.{Status}
 use Rattle.conda_engine.specs.declared.status.Status.TheVariants as status
 use Rattle.conda_engine.specs.Answers.{Answers}
-use Rattle.conda_engine.specs.Disassembling.{IsDisEnd, program_image, text_said, words_in}
+use Rattle.conda_engine.specs.Disassembling.{IsDisEnd, program_image, text_said}
 use Rattle.conda_engine.specs.LastFile.{IsFileEnd, file_command, text_outcome}
 use Rattle.conda_engine.specs.Making.{IsMakeError}
 use Rattle.conda_engine.specs.TextLaws.{HasTextThatComesBackAtDone, IsTextThatComesBack}
 use Rattle.conda_engine.specs.Verdict.{image_limit}
 use Rattle.conda_engine.proofs.AnswerFacts.{told_after}
 use Rattle.conda_engine.proofs.LastFileFacts.{holds_text}
-
-pub words_in_more : (bytes : List ℕ) → 4 ≤ length bytes → words_in bytes ≡ number_of (take 4 bytes) ∷ words_in (drop 4 bytes)
-words_in_more [] h = absurd (omega arith)
-words_in_more (a ∷ []) h = absurd (omega arith)
-words_in_more (a ∷ b ∷ []) h = absurd (omega arith)
-words_in_more (a ∷ b ∷ c ∷ []) h = absurd (omega arith)
-words_in_more (a ∷ b ∷ c ∷ d ∷ bytes) h = refl
-
-pub words_in_few : (bytes : List ℕ) → length bytes < 4 → words_in bytes ≡ []
-words_in_few [] h = refl
-words_in_few (a ∷ []) h = refl
-words_in_few (a ∷ b ∷ []) h = refl
-words_in_few (a ∷ b ∷ c ∷ []) h = refl
-words_in_few (a ∷ b ∷ c ∷ d ∷ bytes) h = absurd (omega arith)
 
 -- ---- the text that is made says the program again
 

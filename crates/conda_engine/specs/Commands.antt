@@ -36,11 +36,11 @@ AnswersAsked old new answer (SelfRun seed events report) =
     Answers (self_command report) (self_outcome chip_account seed events) old new answer
 
 -- an answer of a command, whatever its host tells
-abbrev pub IsEnd : Status → Asked → Type 0
-IsEnd answer (Run files) = IsEarly answer ⊎ IsLate answer
-IsEnd answer (SelfRun seed events report) = IsSelfEnd answer
-IsEnd answer (Asm files) = IsAsmEnd answer
-IsEnd answer (Dis files) = IsDisEnd answer
+abbrev pub IsAnswerOf : Status → Asked → Type 0
+IsAnswerOf answer (Run files) = IsEarly answer ⊎ IsLate answer
+IsAnswerOf answer (SelfRun seed events report) = IsSelfEnd answer
+IsAnswerOf answer (Asm files) = IsAsmEnd answer
+IsAnswerOf answer (Dis files) = IsDisEnd answer
 
 -- what holds at Done besides: a run has the headline, the events of a generated workload are
 -- lawful, a program that is assembled can be loaded, and the text of an image is assembled to it

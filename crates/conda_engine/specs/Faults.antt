@@ -21,25 +21,25 @@ created_name files Output = files.output
 created_name files role = None
 
 -- an answer whose cause is the host: the count of its role and of the role's name rose
-abbrev pub IsFault : Files → HostState → HostState → Status → Type 0
-IsFault files old new (status.ReadFault role) =
+abbrev pub IsHostFault : Files → HostState → HostState → Status → Type 0
+IsHostFault files old new (status.ReadFault role) =
     IsSomeAnd (opened_name files role) (Rose old new role)
-IsFault files old new (status.WriteFault role) =
+IsHostFault files old new (status.WriteFault role) =
     IsSomeAnd (created_name files role) (Rose old new role)
-IsFault files old new other = ⊥
+IsHostFault files old new other = ⊥
 
 -- an answer that says that the host failed has this cause
 abbrev pub IsFaultCaused : Files → HostState → HostState → Status → Type 0
 IsFaultCaused files old new (status.ReadFault role) =
-    IsFault files old new (status.ReadFault role)
+    IsHostFault files old new (status.ReadFault role)
 IsFaultCaused files old new (status.WriteFault role) =
-    IsFault files old new (status.WriteFault role)
+    IsHostFault files old new (status.WriteFault role)
 IsFaultCaused files old new other = Unit {0}
 
 -- the answer is the verdict, or the host failed
 abbrev pub IsAnswer : Files → HostState → HostState → Status → Status → Type 0
 IsAnswer files old new verdict answer =
-    IsFault files old new answer ⊎ (IsTrue old.tells → answer ≡ verdict)
+    IsHostFault files old new answer ⊎ (IsTrue old.tells → answer ≡ verdict)
 
 -- where no count of the host rose, it is the verdict
 abbrev pub IsComplete : HostState → HostState → Status → Status → Type 0

@@ -23,8 +23,8 @@ pub record HasAddresses (base size at words : ℕ) : Type 0 where
   pub fits : size < 2 ^ 32
 
 -- no rule of loading refuses the program's image where memory has its addresses
-abbrev pub IsLoadable : ℕ → List ℕ → Type 0
-IsLoadable at words = (base size : ℕ) → HasAddresses base size at (length words)
+abbrev pub IsNeverRefused : ℕ → List ℕ → Type 0
+IsNeverRefused at words = (base size : ℕ) → HasAddresses base size at (length words)
     → refusal (plain at words) base size ≡ None
 
 -- the image that was made is that of the program that the text says, and can be loaded
@@ -33,7 +33,7 @@ pub record HasLoadableImage (files : ProgramFiles) (old new : HostState) : Type 
   pub words : List ℕ
   pub said : Assembled (bytes_of old files.source) at words
   pub image : new.file files.program ≡ Some (plain at words)
-  pub loadable : IsLoadable at words
+  pub loadable : IsNeverRefused at words
 
 abbrev pub HasLoadableImageAtDone : ProgramFiles → HostState → HostState → Status → Type 0
 HasLoadableImageAtDone files old new answer =

@@ -2,7 +2,7 @@
 ghost use Rattle.std.specs.Prelude.{◌≡◌, ◌≢◌, ◌⊎◌, ◌↔◌, None, IfSome};
 ghost use Rattle.command_words.specs.Words.{AreApart, named};
 ghost use Rattle.conda_engine.specs.Answers.{Answers};
-ghost use Rattle.conda_engine.specs.Commands.{AnswersAsked, HoldsAtDone, IsEnd, asked_of};
+ghost use Rattle.conda_engine.specs.Commands.{AnswersAsked, HoldsAtDone, IsAnswerOf, asked_of};
 ghost use Rattle.conda_engine.specs.Ends.{IsLate};
 ghost use Rattle.conda_engine.specs.Headline.{HasHeadlineAtDone};
 ghost use Rattle.conda_engine.specs.Preparing.{IsEarly};
@@ -56,7 +56,7 @@ pub fn conda<H: Host>(alloc: Global, words: &[String], host: &mut H) -> Status
         (AnswersAsked (H.state host.old) (H.state host.new) result) }
 
     // Whatever the host tells, it is an answer that the command has.
-    ensures end { IfSome (asked_of words.now) (IsEnd result) }
+    ensures end { IfSome (asked_of words.now) (IsAnswerOf result) }
 
     // At Done the files of a run are the texts of one flat memory that executes the written order,
     // and the laws hold of its events, as of those of a generated workload. A program that is

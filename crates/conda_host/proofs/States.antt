@@ -1,5 +1,5 @@
 -- What a change of a slot, or of a file, does to the state.
-use Rattle.std.proofs.Common.{◌≡◌, ◌≢◌, ℕ, ◌+◌, ◌<◌, ◌≤◌, true, false, List, [], ◌++◌, take, drop, ◌↔◌, length, get_or, set, IsTrue, refl, sym, ap, ◌∙◌, subst, arith, inl, inr, zero, suc, ◌∷◌, map, min, ◌-◌, ◌^◌}
+use Rattle.std.proofs.Common.{◌≡◌, ◌≢◌, ℕ, ◌+◌, ◌<◌, ◌≤◌, true, false, List, [], ◌++◌, take, ◌↔◌, length, get_or, set, IsTrue, refl, sym, ap, ◌∙◌, subst, arith, inl, inr, zero, suc, ◌∷◌, map, min, ◌-◌, ◌^◌}
 use Rattle.std.specs.Prelude.{Bool, ◌==◌, ◌&&◌, ◌||◌, not, nat_lt, nat_eq, if◌then◌else◌, Option, Some, None, is_some, string_bytes, replicate}
 use Rattle.std.specs.Option.{option_map_or}
 use Rattle.std.specs.Str.{bytes_eq}
@@ -11,12 +11,12 @@ use Rattle.std.proofs.lemmas.Bool.Decides.{eqb_tells}
 use Rattle.conda_host.specs.declared.outside.Role.{Role}
 use Rattle.conda_host.specs.declared.outside.Role.TheVariants.{Config, Image, Schedule, Order, Report, Output, Source, Program}
 use Rattle.conda_host.specs.declared.slot.Slot.{Slot}
-use Rattle.conda_host.specs.State.{KeepsOpened, IsReading, IsCreating, IsWriting, Opens, Reads, Creates, Writes}
+use Rattle.conda_host.specs.State.{KeepsOpened, IsReading, IsCreating, IsWriting, Opens, Creates, Writes}
 use Rattle.conda_host.specs.Role.{index_of}
 use Rattle.conda_host.specs.Memory.{Input, File, IsFirst, input_at, input_bytes, file_of, created_at, unused, no_file, shown, owns, owned_by, own_file, left_of, file_at, file_with, empty_file_for, find_file, files_made, are_distinct, names_held, names_given, is_among, slot_of, role_with, role_of, state_of}
 use Rattle.conda_host.proofs.Roles.{index_injective, index_small}
 use Rattle.conda_host.proofs.Steps.{writing_of_reading}
-use Rattle.conda_host.specs.MemoryHost.{IsStart, Rules, called, places_of, CountsNothing, CountsOne, TakesName}
+use Rattle.conda_host.specs.MemoryHost.{IsStart, HostRules, called, places_of, CountsNothing, TakesName}
 use Rattle.std.proofs.lemmas.Bool.Decides.{nat_tests}
 use Rattle.conda_host.proofs.Finds.{input_apart, first_name, first_length, find_set_same, find_set_other, first_of_held, first_unique, same_name, other_name}
 
@@ -67,15 +67,6 @@ sources_stay i f g slots role r s h same =
 
 -- the counts of a call that failed, and of one that didn't
 
-pub counted_one : (i : List Input) (f g : List File) (slots : List Slot) (k : ℕ) (role : Role) (s : Slot) → k ≡ index_of role → length slots ≡ 8 → s.faults ≡ min ((get_or slots k unused).faults + 1) (2 ^ 64 - 1)
-    → CountsOne (state_of i f slots) (state_of i g (set slots k s)) role
-counted_one i f g slots k role s e h is =
-    let is' : s.faults ≡ min ((slot_of slots role).faults + 1) (2 ^ 64 - 1) = subst (λ x. s.faults ≡ min ((get_or slots x unused).faults + 1) (2 ^ 64 - 1)) e is in
-    rw e (record {
-      one = λ n. ap (λ t. t.faults) (slot_same slots role s h) ∙ is';
-      others = λ r n d. ap (λ t. t.faults) (slot_other slots role r s d);
-    })
-
 pub counted_none : (i : List Input) (f g : List File) (slots : List Slot) (k : ℕ) (role : Role) (s : Slot) → k ≡ index_of role → length slots ≡ 8 → s.faults ≡ (get_or slots k unused).faults
     → CountsNothing (state_of i f slots) (state_of i g (set slots k s))
 counted_none i f g slots k role s e h is =
@@ -93,17 +84,6 @@ opened_ok i f slots k role j name s e h reads none found =
     rw e (record {
       opened = rw (slot_same slots role s h, reads) refl;
       left = λ t. rw (slot_same slots role s h, reads, none) found;
-    })
-
--- bytes of an input were read
-pub read_ok : (i : List Input) (f : List File) (slots : List Slot) (k : ℕ) (role : Role) (before after : List ℕ) (n input from : ℕ) (s : Slot) → k ≡ index_of role → length slots ≡ 8 → (get_or slots k unused).reading ≡ Some (record { input = input; at = from }) → s.reading ≡ Some (record { input = input; at = from + n }) → n ≤ length before → drop from (input_bytes i input) ≡ take n after ++ drop (from + n) (input_bytes i input) → (0 < length before → (n ≡ 0) ↔ (drop from (input_bytes i input) ≡ [])) → Reads (state_of i f slots) (state_of i f (set slots k s)) role before after n
-read_ok i f slots k role before after n input from s e h was now le bytes ended =
-    let was' : (slot_of slots role).reading ≡ Some (record { input = input; at = from }) = subst (λ x. (get_or slots x unused).reading ≡ Some (record { input = input; at = from })) e was in
-    rw e (record {
-      bound = le;
-      opened = rw (slot_same slots role s h, now) refl;
-      bytes = λ t. rw (slot_same slots role s h, now, was') bytes;
-      ended = λ t p. rw was' (ended p);
     })
 
 -- files and their owners
@@ -392,7 +372,7 @@ pub negated : (a r : Bool) → r ≡ a → r ≡ true → false ≡ not a
 negated true r e f = refl
 negated false r e f = cc
 
-pub same_rules : (r : Rules) (places : List (List ℕ × ℕ)) (n : ℕ) → places ≡ r.places → n ≡ min (r.calls + 1) (2 ^ 64 - 1) → record r { places = places; calls = n } ≡ called r
+pub same_rules : (r : HostRules) (places : List (List ℕ × ℕ)) (n : ℕ) → places ≡ r.places → n ≡ min (r.calls + 1) (2 ^ 64 - 1) → record r { places = places; calls = n } ≡ called r
 same_rules r places n e f = λ k. record r { places = e k; calls = f k }
 
 nothing_there : {X : Type 0} (o : Option X) → o ≡ None → IsTrue (is_some o) → ⊥

@@ -21,7 +21,7 @@ pub record IsStart (state : HostState) (inputs : List Input) : Type 0 where
   pub faults : (r : Role) (n : List ℕ) → state.faults r n ≡ 0
 
 -- what a host in memory was made with, and how many of its calls there were
-pub record Rules : Type 0 where
+pub record HostRules : Type 0 where
   pub inputs : List Input
   pub places : List (List ℕ × ℕ)
   pub most : ℕ
@@ -32,7 +32,7 @@ pub record Rules : Type 0 where
 abbrev pub places_of : List File → List (List ℕ × ℕ)
 places_of files = map (λ f. (f.name, f.room)) files
 
-abbrev pub rules_of : MemoryHost → Rules
+abbrev pub rules_of : MemoryHost → HostRules
 rules_of m = record {
   inputs = m.inputs.items;
   places = places_of (files_seen m.outputs.items);
@@ -42,7 +42,7 @@ rules_of m = record {
 }
 
 -- the rules of a host that is made of these
-abbrev pub rules_made : List Input → List (String Global) → ℕ → ℕ → List ℕ → Rules
+abbrev pub rules_made : List Input → List (String Global) → ℕ → ℕ → List ℕ → HostRules
 rules_made inputs outputs room most failing = record {
   inputs = inputs;
   places = map (λ name. (string_bytes name, room)) outputs;
@@ -52,7 +52,7 @@ rules_made inputs outputs room most failing = record {
 }
 
 -- after one more call
-abbrev pub called : Rules → Rules
+abbrev pub called : HostRules → HostRules
 called r = record r { calls = min (r.calls + 1) (2 ^ 64 - 1) }
 
 -- the next call is one of those that fail
@@ -96,15 +96,15 @@ pub record CountsOne (old new : HostState) (role : Role) : Type 0 where
   pub others : (r : Role) (n : List ℕ) → r ≢ role → new.faults r n ≡ old.faults r n
 
 -- a call that failed is counted, once
-abbrev pub Counts : {A : Type 0}
+abbrev pub CountsCall : {A : Type 0}
     → HostState → HostState → Role → Result A HostFailed → Type 0
-Counts old new role (Ok value) = CountsNothing old new
-Counts old new role (Err fault) = CountsOne old new role
+CountsCall old new role (Ok value) = CountsNothing old new
+CountsCall old new role (Err fault) = CountsOne old new role
 
 -- a call was counted, and its failure
 pub record Serves {A : Type 0} (old new : MemoryHost) (role : Role) (result : Result A HostFailed)
     : Type 0 where
-  pub counts : Counts (memory_state old) (memory_state new) role result
+  pub counts : CountsCall (memory_state old) (memory_state new) role result
   pub rules : rules_of new ≡ called (rules_of old)
 
 -- no other role has the name

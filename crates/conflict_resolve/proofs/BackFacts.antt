@@ -1,13 +1,10 @@
 -- The due flushes of a rollback.
-use Rattle.std.proofs.Common.{◌≡◌, ℕ, ◌+◌, cond, sym, ap, subst, ◌∙◌}
-use Rattle.std.specs.List.{count_by}
-use Rattle.std.proofs.lemmas.List.Sums.{sum_by-cons}
-use Rattle.conda_base.specs.declared.Line.{Line}
+use Rattle.std.proofs.Common.{◌≡◌, ◌+◌, sym, ap, subst, ◌∙◌}
 use Rattle.rv32_hart.specs.Code.{CodeView}
-use Rattle.bloom_sig.specs.Signatures.{Sets, is_member}
+use Rattle.bloom_sig.specs.Signatures.{Sets}
 use Rattle.bloom_sig.specs.Images.{IsSignatureOf, member_count}
 use Rattle.bloom_sig.proofs.ImageLemmas.{members_are_counted}
-use Rattle.line_memory.specs.Backing.{BackingView, IsFirstDirty, dirty_from, dirty_in}
+use Rattle.line_memory.specs.Backing.{BackingView, dirty_in}
 use Rattle.try_runs.specs.Fills.{Portion, portion_run}
 use Rattle.try_runs.specs.Tries.{Try}
 use Rattle.portion_ctl.specs.declared.portion.Undone.{Undone}
@@ -15,12 +12,6 @@ use Rattle.portion_ctl.specs.Stands.{StandsFor}
 use Rattle.portion_ctl.specs.States.{IsUndoneOf}
 use Rattle.portion_ctl.specs.Views.{EndedView, FlushingView}
 use Rattle.conflict_resolve.specs.Backs.{due_count, Backs}
-
--- the count over a walk, a line on
-pub count-step : (reads : Sets) (b : BackingView) (from place : ℕ) (l : Line) → IsFirstDirty b from place l
-    → count_by (is_member reads) (dirty_from b from) ≡ cond (is_member reads l) 1 0 + count_by (is_member reads) (dirty_from b (place + 1))
-count-step reads b from place l first =
-    ap (count_by (is_member reads)) (first.skipped ∙ first.first) ∙ sum_by-cons (λ k. cond (is_member reads k) 1 0) l (dirty_from b (place + 1))
 
 pub backs : (code : CodeView) (b : BackingView) (c : EndedView) (p : Portion) (undone : Undone) → StandsFor code c.try p
     → IsUndoneOf c (due_count c.try.read_set b) undone → Backs b c (portion_run code c.try.limits.line_bytes p) p undone

@@ -19,7 +19,7 @@ use Rattle.offload_calls.proofs.StoreLemmas.{length-overlay, latest_stored}
 use Rattle.try_runs.specs.Fills.{Fills, try_run}
 use Rattle.try_runs.specs.Tries.{Try, writes, stored_lines, is_stored}
 use Rattle.try_runs.specs.Serial.{try_in, after_try, line_bytes_of}
-use Rattle.try_runs.proofs.LineFacts.{line_eq, names-with_all_new}
+use Rattle.conda_base.proofs.LineListLemmas.{line_eq, names-with_all_new}
 use Rattle.try_runs.proofs.Serial.{serial}
 use Rattle.portion_ctl.specs.declared.portion.Kept.{Kept}
 use Rattle.portion_ctl.specs.Stands.{address_in, HoldsLines, Holds, StandsFor}

@@ -4,19 +4,20 @@ use Rattle.std.specs.Prelude.{All}
 use Rattle.std.specs.List.{filter, Contains}
 use Rattle.std.proofs.lemmas.Bool.{false≢true, true≢false, eqb-false, eq-eqb, or_cases, or_parts, or_left, or_right, and_from}
 use Rattle.std.proofs.lemmas.List.Elements.{All-head, All-tail}
+use Rattle.set_assoc.specs.Entries.{lookup}
 use Rattle.conda_base.specs.declared.Line.{Line}
 use Rattle.conda_base.specs.declared.Mesi.TheVariants.{M}
 use Rattle.conda_base.specs.Lines.{IsLineOf}
 use Rattle.conda_base.specs.LineLists.{names, same_line}
 use Rattle.line_memory.specs.Memory.{IsMemory}
-use Rattle.line_memory.specs.Tags.{Tag, Tags, Shape, set_of, held_state, state_in, is_in_m, dirty_lines}
+use Rattle.line_memory.specs.Tags.{Tag, Tags, Shape, set_of, held_state, is_in_m, dirty_lines}
 use Rattle.line_memory.specs.Access.{after_commit}
 use Rattle.line_memory.specs.Backing.{BackingView, IsBacking, IsInRange, shape_of, dirty_in, view_of, copy_of, committed_line, merged}
 use Rattle.line_memory.specs.Copies.{has_same_owner, copy_after}
 use Rattle.line_memory.proofs.BelowLemmas.{some_found}
 use Rattle.line_memory.proofs.MemberLemmas.{cons_cases, cons_here, cons_later, none_in_nil, state_of_dirty}
 use Rattle.line_memory.proofs.MemoryLemmas.{length-with_line, bytes_of_line-with_line_other}
-use Rattle.try_runs.proofs.LineFacts.{line_eq}
+use Rattle.conda_base.proofs.LineListLemmas.{line_eq}
 use Rattle.conflict_resolve.specs.Merges.{Stored, all_merged}
 use Rattle.conflict_resolve.proofs.MergeFacts.{lines_in, within, line-long, merged-long}
 
@@ -96,28 +97,28 @@ module _ (l : Line) where
 -- ---- who has a line in M
 
 -- a line that is left in M was so before, and isn't one of those taken out
-left_in_m : (lines : List Line) (tags : List Tag) (l : Line) → state_in l (filter (λ (t : Tag). not (names lines t.0)) tags) ≡ Some M
-    → (names lines l ≡ false) × (state_in l tags ≡ Some M)
+left_in_m : (lines : List Line) (tags : List Tag) (l : Line) → lookup l (filter (λ (t : Tag). not (names lines t.0)) tags) ≡ Some M
+    → (names lines l ≡ false) × (lookup l tags ≡ Some M)
 left_in_m lines [] l h = absurd (let none : None ≡ Some M = h in cc)
 left_in_m lines (t ∷ tags) l h = go (names lines t.0) refl (same_line t.0 l) refl h (left_in_m lines tags l)
   where
     rest : List Tag
     rest = filter (λ (t : Tag). not (names lines t.0)) tags
 
-    taken : (same_line t.0 l ≡ true) → names lines t.0 ≡ true → (names lines l ≡ false) × (state_in l tags ≡ Some M) → ⊥
+    taken : (same_line t.0 l ≡ true) → names lines t.0 ≡ true → (names lines l ≡ false) × (lookup l tags ≡ Some M) → ⊥
     taken same on left = true≢false (sym (subst (λ k. names lines k ≡ true) (line_eq t.0 l same) on) ∙ left.0)
 
     go : (x : Bool) → names lines t.0 ≡ x → (y : Bool) → same_line t.0 l ≡ y
-        → state_in l (cond (not x) (t ∷ rest) rest) ≡ Some M
-        → (state_in l rest ≡ Some M → (names lines l ≡ false) × (state_in l tags ≡ Some M))
-        → (names lines l ≡ false) × (cond y (Some t.1) (state_in l tags) ≡ Some M)
+        → lookup l (cond (not x) (t ∷ rest) rest) ≡ Some M
+        → (lookup l rest ≡ Some M → (names lines l ≡ false) × (lookup l tags ≡ Some M))
+        → (names lines l ≡ false) × (cond y (Some t.1) (lookup l tags) ≡ Some M)
     go true on true same h later = absurd (taken same on (later h))
     go true on false other h later = later h
     go false off true same h later = (
       subst (λ k. names lines k ≡ false) (line_eq t.0 l same) off,
-      sym (ap (λ y. cond y (Some t.1) (state_in l rest)) same) ∙ h,
+      sym (ap (λ y. cond y (Some t.1) (lookup l rest)) same) ∙ h,
     )
-    go false off false other h later = later (sym (ap (λ y. cond y (Some t.1) (state_in l rest)) other) ∙ h)
+    go false off false other h later = later (sym (ap (λ y. cond y (Some t.1) (lookup l rest)) other) ∙ h)
 
 -- ---- the copies
 

@@ -6,6 +6,7 @@ use Rattle.std.proofs.lemmas.Bool.{false≢true, true≢false, eqb-true, eqb-fal
 use Rattle.std.proofs.lemmas.List.{places, get_or-take, get_or-drop, length-take-le}
 use Rattle.std.proofs.lemmas.List.Elements.{All-nil, All-cons, All-head, All-tail}
 use Rattle.std.proofs.lemmas.List.{ext_get_or}
+use Rattle.set_assoc.specs.Entries.{lookup}
 use Rattle.conda_base.specs.declared.Line.{Line}
 use Rattle.conda_base.specs.Lines.{IsLineSize, IsLineOf, line_number, line_offset}
 use Rattle.conda_base.specs.Marks.{is_marked}
@@ -14,14 +15,15 @@ use Rattle.conda_base.proofs.MarkLemmas.{length-mixed, get_or-mixed}
 use Rattle.traffic_trace.specs.declared.note.Kind.TheVariants as Kind_is
 use Rattle.line_memory.specs.Memory.{IsMemory}
 use Rattle.line_memory.specs.Backing.{BackingView, IsInRange, shape_of, view_of, committed_line, merged}
-use Rattle.line_memory.specs.Tags.{Tag, Tags, Shape, held_state, state_in, without_line, each_below}
+use Rattle.line_memory.specs.Tags.{Tag, Tags, Shape, held_state, without_line, each_below}
 use Rattle.line_memory.specs.Access.{after_commit}
 use Rattle.line_memory.specs.Notes.{note_of, leave_notes, all_notes, merge_notes, commit_notes}
 use Rattle.line_memory.proofs.MemoryLemmas.{length-with_line, bytes_of_line-in}
 use Rattle.offload_calls.specs.Stores.{Inside, overlay, byte_at, latest, has, stored_addresses}
 use Rattle.offload_calls.proofs.StoreLemmas.{length-overlay, byte_at-overlay, latest-elsewhere, latest_stored}
 use Rattle.conda_base.specs.LineLists.{line_at, lines_of, same_line, names}
-use Rattle.try_runs.proofs.LineFacts.{AreDistinct, line_eq, same_line-refl, same_line-eq, names-with_all_new, AreDistinct-with_all_new}
+use Rattle.conda_base.proofs.LineListLemmas.{line_eq, same_line-refl, same_line-eq, names-with_all_new}
+use Rattle.try_runs.proofs.LineFacts.{AreDistinct, AreDistinct-with_all_new}
 use Rattle.try_runs.proofs.LineBytes.{apart_lines}
 use Rattle.conflict_resolve.specs.Merges.{Stored, all_merged, all_merge_notes}
 
@@ -291,17 +293,17 @@ merges-tags b (e ∷ entries) k s = merges-tags (merged b e.0 e.1.bytes e.1.mask
 
 -- ---- notes
 
-state-without : (n l : Line) (ts : List Tag) → same_line n l ≡ false → state_in l (without_line n ts) ≡ state_in l ts
+state-without : (n l : Line) (ts : List Tag) → same_line n l ≡ false → lookup l (without_line n ts) ≡ lookup l ts
 state-without n l [] ne = refl
 state-without n l (t ∷ ts) ne = go (same_line t.0 n) refl (state-without n l ts ne)
   where
     rest : List Tag
     rest = without_line n ts
 
-    go : (x : Bool) → same_line t.0 n ≡ x → state_in l rest ≡ state_in l ts
-        → state_in l (cond (not x) (t ∷ rest) rest) ≡ cond (same_line t.0 l) (Some t.1) (state_in l ts)
+    go : (x : Bool) → same_line t.0 n ≡ x → lookup l rest ≡ lookup l ts
+        → lookup l (cond (not x) (t ∷ rest) rest) ≡ cond (same_line t.0 l) (Some t.1) (lookup l ts)
     go true e ih =
-        ih ∙ ap (λ c. cond c (Some t.1) (state_in l ts)) (sym (subst (λ m. same_line m l ≡ false) (sym (line_eq t.0 n e)) ne))
+        ih ∙ ap (λ c. cond c (Some t.1) (lookup l ts)) (sym (subst (λ m. same_line m l ≡ false) (sym (line_eq t.0 n e)) ne))
     go false e ih = ap (λ o. cond (same_line t.0 l) (Some t.1) o) ih
 
 each-ext : {A : Type 0} (m : ℕ) (f g : ℕ → List A) → ((k : ℕ) → f k ≡ g k) → each_below m f ≡ each_below m g

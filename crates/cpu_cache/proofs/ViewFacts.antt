@@ -21,7 +21,7 @@ use Rattle.set_assoc.specs.SetLists.{SetLists, set_of, list_of, with_list, find,
 use Rattle.set_assoc.proofs.SetLemmas.{list_of-with_list}
 use Rattle.set_assoc.proofs.SeenFacts.{IsSets-seen, changed-seen, find-seen, list_of-seen, replaced-seen_list, replicate-seen, touched-seen_list, with_list-seen, without-seen_list}
 use Rattle.cpu_cache.specs.Contents.{Content, Contents, IsCache, bytes_in, bytes_of, content_bytes, content_of, filled, in_front, leaving, loaded, restated, set_list, state_of, stored_if_owned, tag_of, tags_of, with_set, written_back}
-use Rattle.cpu_cache.specs.Slots.{IsSlot, IsStore, content_in, contents_in, slot_of}
+use Rattle.cpu_cache.specs.Slots.{IsSlot, IsSlotStore, content_in, contents_in, slot_of}
 use Rattle.set_assoc.proofs.FindFacts.{set_below}
 use Rattle.cpu_cache.proofs.PlaceFacts.{place_below, write_unseen}
 use Rattle.cpu_cache.proofs.RoomFacts.{find_listed}
@@ -99,7 +99,7 @@ tag_seen n slots lines set way =
     option_map_twice (λ e. (e.0, f e.0 e.1)) tag_of (slice_get (get_or lines.lists set []) way))
 
 -- a slot is within the slots
-pub slot_within : (n : ℕ) (lines : SetLists (Placed Mesi)) (slots : List (List ℕ)) (l : Line) (kept : Placed Mesi) → IsStore n lines slots → find lines l ≡ Some kept → slot_in lines l kept < length slots
+pub slot_within : (n : ℕ) (lines : SetLists (Placed Mesi)) (slots : List (List ℕ)) (l : Line) (kept : Placed Mesi) → IsSlotStore n lines slots → find lines l ≡ Some kept → slot_in lines l kept < length slots
 slot_within n lines slots l kept is there =
     let set = set_below lines l is.placed.sets in
     let place = place_below lines l kept is.placed there in
@@ -110,7 +110,7 @@ some_bytes : (n : ℕ) (f : Placed Mesi → Content) (o : Option (Placed Mesi)) 
 some_bytes n f None long = tt
 some_bytes n f (Some kept) long = long kept refl
 
-pub IsCache-seen : (n : ℕ) (lines : SetLists (Placed Mesi)) (slots : List (List ℕ)) → IsStore n lines slots → IsCache (contents_in n slots lines)
+pub IsCache-seen : (n : ℕ) (lines : SetLists (Placed Mesi)) (slots : List (List ℕ)) → IsSlotStore n lines slots → IsCache (contents_in n slots lines)
 IsCache-seen n lines slots is = record {
   size = is.size;
   sets = IsSets-seen (seen_as n slots lines) lines is.placed.sets;
@@ -123,7 +123,7 @@ IsCache-seen n lines slots is = record {
 }
 
 -- the slot of a held line, as it is handed out
-pub slot_seen : (n : ℕ) (lines : SetLists (Placed Mesi)) (slots : List (List ℕ)) (l : Line) (kept : Placed Mesi) (bytes : List ℕ) → IsStore n lines slots → find lines l ≡ Some kept → bytes ≡ get_or slots (slot_in lines l kept) bytes → bytes ≡ handed_out (bytes_of (contents_in n slots lines) l)
+pub slot_seen : (n : ℕ) (lines : SetLists (Placed Mesi)) (slots : List (List ℕ)) (l : Line) (kept : Placed Mesi) (bytes : List ℕ) → IsSlotStore n lines slots → find lines l ≡ Some kept → bytes ≡ get_or slots (slot_in lines l kept) bytes → bytes ≡ handed_out (bytes_of (contents_in n slots lines) l)
 slot_seen n lines slots l kept bytes is there read =
     let within = slot_within n lines slots l kept is there in
     let bounds = line_size_bounds n is.size in
@@ -132,7 +132,7 @@ slot_seen n lines slots l kept bytes is there read =
     ap (λ b. handed_out (take n b)) (get_or_default slots (slot_in lines l kept) bytes [] within) ∙
     ap handed_out (sym (bytes_seen n slots lines l kept there))
 
-pub written_back_seen : (n : ℕ) (lines : SetLists (Placed Mesi)) (slots : List (List ℕ)) (l : Line) (kept : Placed Mesi) → IsStore n lines slots → find lines l ≡ Some kept → bytes_in kept.value (get_or slots (slot_in lines l kept) []) ≡ written_back (content_of (contents_in n slots lines) l)
+pub written_back_seen : (n : ℕ) (lines : SetLists (Placed Mesi)) (slots : List (List ℕ)) (l : Line) (kept : Placed Mesi) → IsSlotStore n lines slots → find lines l ≡ Some kept → bytes_in kept.value (get_or slots (slot_in lines l kept) []) ≡ written_back (content_of (contents_in n slots lines) l)
 written_back_seen n lines slots l kept is there =
     let within = slot_within n lines slots l kept is there in
     let bounds = line_size_bounds n is.size in
@@ -209,7 +209,7 @@ pub stored_line : (n offset size : ℕ) (slot new : List ℕ) → n ≤ length s
 stored_line n offset size slot new room within len = same_lists _ _ (search (rules, places)) (λ k d below. grind (arith, places))
 
 -- the number that an access of a held line reads
-pub value_seen : (n : ℕ) (lines : SetLists (Placed Mesi)) (slots : List (List ℕ)) (l : Line) (kept : Placed Mesi) (bytes : List ℕ) (offset size : ℕ) → IsStore n lines slots → find lines l ≡ Some kept → bytes ≡ get_or slots (slot_in lines l kept) bytes → offset + size ≤ n → Some (value_at bytes offset size) ≡ loaded offset size (content_of (contents_in n slots lines) l)
+pub value_seen : (n : ℕ) (lines : SetLists (Placed Mesi)) (slots : List (List ℕ)) (l : Line) (kept : Placed Mesi) (bytes : List ℕ) (offset size : ℕ) → IsSlotStore n lines slots → find lines l ≡ Some kept → bytes ≡ get_or slots (slot_in lines l kept) bytes → offset + size ≤ n → Some (value_at bytes offset size) ≡ loaded offset size (content_of (contents_in n slots lines) l)
 value_seen n lines slots l kept bytes offset size is there read within =
     let inside = slot_within n lines slots l kept is there in
     let bounds = line_size_bounds n is.size in
@@ -219,7 +219,7 @@ value_seen n lines slots l kept bytes offset size is there read within =
     ap (λ o. loaded offset size o) (sym (found_seen n slots lines l kept there))
 
 -- the bytes of a held line after a store
-pub bytes_stored : (n : ℕ) (lines : SetLists (Placed Mesi)) (slots : List (List ℕ)) (l : Line) (kept : Placed Mesi) (bytes : List ℕ) (offset size value : ℕ) → IsStore n lines slots → find lines l ≡ Some kept → bytes ≡ get_or slots (slot_in lines l kept) bytes → IsAccessSize size → offset + size ≤ n → take n (stored bytes offset size value) ≡ stored (bytes_of (contents_in n slots lines) l) offset size value
+pub bytes_stored : (n : ℕ) (lines : SetLists (Placed Mesi)) (slots : List (List ℕ)) (l : Line) (kept : Placed Mesi) (bytes : List ℕ) (offset size value : ℕ) → IsSlotStore n lines slots → find lines l ≡ Some kept → bytes ≡ get_or slots (slot_in lines l kept) bytes → IsAccessSize size → offset + size ≤ n → take n (stored bytes offset size value) ≡ stored (bytes_of (contents_in n slots lines) l) offset size value
 bytes_stored n lines slots l kept bytes offset size value is there read access within =
     let inside = slot_within n lines slots l kept is there in
     let bounds = line_size_bounds n is.size in
@@ -228,14 +228,14 @@ bytes_stored n lines slots l kept bytes offset size value is there read access w
     stored_line n offset size (get_or slots (slot_in lines l kept) []) (take size (to_le_bytes w32 value)) (omega arith) within (length-low_bytes size value access) ∙
     ap (λ b. stored b offset size value) (sym (bytes_seen n slots lines l kept there))
 
-pub slot_stored : (n : ℕ) (lines : SetLists (Placed Mesi)) (slots : List (List ℕ)) (l : Line) (kept : Placed Mesi) (bytes : List ℕ) (offset size value : ℕ) → IsStore n lines slots → find lines l ≡ Some kept → bytes ≡ get_or slots (slot_in lines l kept) bytes → IsAccessSize size → offset + size ≤ n → IsSlot n (stored bytes offset size value)
+pub slot_stored : (n : ℕ) (lines : SetLists (Placed Mesi)) (slots : List (List ℕ)) (l : Line) (kept : Placed Mesi) (bytes : List ℕ) (offset size value : ℕ) → IsSlotStore n lines slots → find lines l ≡ Some kept → bytes ≡ get_or slots (slot_in lines l kept) bytes → IsAccessSize size → offset + size ≤ n → IsSlot n (stored bytes offset size value)
 slot_stored n lines slots l kept bytes offset size value is there read access within =
     let inside = slot_within n lines slots l kept is there in
     let bounds = line_size_bounds n is.size in
     IsSlot-written n offset size bytes (take size (to_le_bytes w32 value)) (slot_at n lines slots (slot_in lines l kept) bytes is inside read) bounds.1 within (length-low_bytes size value access)
 
 -- a store into a held line, which comes to the front in M
-pub stored_seen : (n : ℕ) (lines : SetLists (Placed Mesi)) (slots : List (List ℕ)) (l : Line) (kept : Placed Mesi) (bytes : List ℕ) (offset size value : ℕ) → IsStore n lines slots → find lines l ≡ Some kept → bytes ≡ get_or slots (slot_in lines l kept) bytes → IsAccessSize size → offset + size ≤ n → ArePlacedSets (with_list lines l ((l, placed M kept.place) ∷ without l (list_of lines l))) → contents_in n (set slots (slot_in lines l kept) (stored bytes offset size value)) (with_list lines l ((l, placed M kept.place) ∷ without l (list_of lines l))) ≡ with_set (contents_in n slots lines) l (in_front (contents_in n slots lines) l (record { state = M; bytes = stored (bytes_of (contents_in n slots lines) l) offset size value }))
+pub stored_seen : (n : ℕ) (lines : SetLists (Placed Mesi)) (slots : List (List ℕ)) (l : Line) (kept : Placed Mesi) (bytes : List ℕ) (offset size value : ℕ) → IsSlotStore n lines slots → find lines l ≡ Some kept → bytes ≡ get_or slots (slot_in lines l kept) bytes → IsAccessSize size → offset + size ≤ n → ArePlacedSets (with_list lines l ((l, placed M kept.place) ∷ without l (list_of lines l))) → contents_in n (set slots (slot_in lines l kept) (stored bytes offset size value)) (with_list lines l ((l, placed M kept.place) ∷ without l (list_of lines l))) ≡ with_set (contents_in n slots lines) l (in_front (contents_in n slots lines) l (record { state = M; bytes = stored (bytes_of (contents_in n slots lines) l) offset size value }))
 stored_seen n lines slots l kept bytes offset size value is there read access within now =
     written_seen n slots (stored bytes offset size value) lines l (placed M kept.place) (without l (list_of lines l)) is.placed.sets now (slot_within n lines slots l kept is there) ∙
     ap (λ b. with_set (contents_in n slots lines) l ((l, record { state = M; bytes = b }) ∷ seen_list (seen_as n slots lines) (without l (list_of lines l)))) (bytes_stored n lines slots l kept bytes offset size value is there read access within) ∙
@@ -257,7 +257,7 @@ take-cons : {A : Type 0} (w : ℕ) (x : A) (xs : List A) → 0 < w → take w (x
 take-cons zero x xs some = absurd (omega arith)
 take-cons (suc w) x xs some = let less : w ≡ suc w - 1 = omega arith in ap (λ k. x ∷ take k xs) less
 
-pub filled_seen : (n : ℕ) (lines : SetLists (Placed Mesi)) (slots : List (List ℕ)) (l : Line) (kept : Placed Mesi) (was from : List ℕ) → IsStore n lines slots → length from ≡ 128 → ArePlacedSets (with_list lines l (take lines.ways ((l, kept) ∷ list_of lines l))) → slot_in lines l kept < length slots → contents_in n (set slots (slot_in lines l kept) (take n from ++ drop n was)) (with_list lines l (take lines.ways ((l, kept) ∷ list_of lines l))) ≡ with_set (contents_in n slots lines) l (take lines.ways (filled (contents_in n slots lines) l from kept.value))
+pub filled_seen : (n : ℕ) (lines : SetLists (Placed Mesi)) (slots : List (List ℕ)) (l : Line) (kept : Placed Mesi) (was from : List ℕ) → IsSlotStore n lines slots → length from ≡ 128 → ArePlacedSets (with_list lines l (take lines.ways ((l, kept) ∷ list_of lines l))) → slot_in lines l kept < length slots → contents_in n (set slots (slot_in lines l kept) (take n from ++ drop n was)) (with_list lines l (take lines.ways ((l, kept) ∷ list_of lines l))) ≡ with_set (contents_in n slots lines) l (take lines.ways (filled (contents_in n slots lines) l from kept.value))
 filled_seen n lines slots l kept was from is len now within =
     let bounds = line_size_bounds n is.size in
     let some = is.placed.sets.some_ways in
@@ -275,7 +275,7 @@ filled_seen n lines slots l kept was from is len now within =
     ap (λ es. with_set (contents_in n slots lines) l es) (sym (take-cons lines.ways first (set_list (contents_in n slots lines) l) some))
 
 -- the last line, as it leaves
-pub left_seen : (n : ℕ) (lines : SetLists (Placed Mesi)) (slots : List (List ℕ)) (l : Line) (i : ℕ) (entry : Line × Placed Mesi) (bytes : List ℕ) → IsStore n lines slots → slice_get (list_of lines l) i ≡ Some entry → bytes ≡ get_or slots (slot_in lines entry.0 entry.1) bytes → Some (entry.0, entry.1.value, bytes) ≡ option_map leaving (slice_get (set_list (contents_in n slots lines) l) i)
+pub left_seen : (n : ℕ) (lines : SetLists (Placed Mesi)) (slots : List (List ℕ)) (l : Line) (i : ℕ) (entry : Line × Placed Mesi) (bytes : List ℕ) → IsSlotStore n lines slots → slice_get (list_of lines l) i ≡ Some entry → bytes ≡ get_or slots (slot_in lines entry.0 entry.1) bytes → Some (entry.0, entry.1.value, bytes) ≡ option_map leaving (slice_get (set_list (contents_in n slots lines) l) i)
 left_seen n lines slots l i entry bytes is at read =
     let f : Line → Placed Mesi → Content = seen_as n slots lines in
     let there = (find_listed lines l i entry is.placed.sets at).0 in

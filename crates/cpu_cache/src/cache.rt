@@ -47,13 +47,13 @@ pub struct CpuCache {
 
 impl Model for CpuCache {
     ghost use Rattle.cpu_cache.specs.Contents.{Contents};
-    ghost use Rattle.cpu_cache.specs.Slots.{contents_in, IsStore};
+    ghost use Rattle.cpu_cache.specs.Slots.{contents_in, IsSlotStore};
 
     ghost Value = { Contents };
 
     ghost view = { λ c. contents_in c.line_bytes c.slots.items c.lines };
 
-    ghost invariant = { λ c. IsStore c.line_bytes c.lines c.slots.items };
+    ghost invariant = { λ c. IsSlotStore c.line_bytes c.lines c.slots.items };
 }
 
 impl CpuCache {

@@ -1,9 +1,9 @@
 -- Memory that was filled by some segments.
-use Rattle.std.proofs.Common.{◌≡◌, ℕ, ◌+◌, ◌-◌, ◌<◌, ◌≤◌, Bool, true, false, cond, ltb, ◌&&◌, ◌||◌, List, [], ◌∷◌, ◌++◌, length, get_or, take, map, replicate, refl, sym, ap, ◌∙◌, arith}
+use Rattle.std.proofs.Common.{◌≡◌, ℕ, ◌+◌, ◌-◌, ◌<◌, ◌≤◌, Bool, true, false, cond, ltb, ◌&&◌, ◌||◌, List, [], ◌∷◌, ◌++◌, length, get_or, take, map, refl, sym, ap, ◌∙◌, arith}
 use Rattle.std.specs.Prelude.{slice_index}
 use Rattle.std.specs.List.{list_any, range_with_len}
 use Rattle.std.proofs.lemmas.Bool.Decides.{nat_tests}
-use Rattle.std.proofs.lemmas.List.{take_more, take_all, get_or-replicate, length-replicate, ext_get_or}
+use Rattle.std.proofs.lemmas.List.{take_more, take_all, ext_get_or}
 use Rattle.std.proofs.lemmas.List.FromFn.{length-map-range_with_len, get_or-map-range_with_len}
 use Rattle.elf_loader.specs.declared.segment.Segment.{Segment}
 use Rattle.elf_loader.specs.Loaded.{holds, byte_of, byte_at, is_copied}
@@ -122,13 +122,6 @@ filled_more file segments i d s base size old new within is good distinct filled
       bytes = λ k h. byte_more file (take i segments) s (base + k) (get_or old k 0) (get_or new k 0) good distinct (filled.bytes k h) (copied k (omega arith))
           ∙ ap (λ t. byte_at file t (base + k)) (sym more);
     }
-
-pub filled_none : (file : List ℕ) (segments : List Segment) (base size : ℕ) (memory : List ℕ) → memory ≡ replicate size 0
-    → IsFilledBy file (take 0 segments) base size memory
-filled_none file segments base size memory zeros = record {
-  long = ap length zeros ∙ length-replicate size 0;
-  bytes = λ k h. ap (λ m. get_or m k 0) zeros ∙ get_or-replicate size k 0 0 h;
-}
 
 -- memory that was filled by all segments
 pub filled_all : (file : List ℕ) (segments : List Segment) (n base size : ℕ) (memory : List ℕ) → length segments ≤ n

@@ -10,13 +10,13 @@ use Rattle.chip_laws.specs.Worlds.{flat_line, world, journal}
 
 -- the order of entries, the notes of traffic, the tags at the end, and the bytes of line 1 in flat
 -- memory
-pub record Outcome : Type 0 where
+pub record RunOutcome : Type 0 where
   pub order : List Entry
   pub notes : List Note
   pub tags : List Tag
   pub bytes : List ℕ
 
-pub record ComesTo (d : Design) (events : List Actor) (outcome : Outcome) : Type 0 where
+pub record ComesTo (d : Design) (events : List Actor) (outcome : RunOutcome) : Type 0 where
   pub order : journal d events ≡ outcome.order
   pub notes : (world d events).notes ≡ outcome.notes
   pub tags : all_tags (hart_shape d) (world d events).tags ≡ outcome.tags

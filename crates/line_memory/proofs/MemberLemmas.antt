@@ -5,11 +5,12 @@ use Rattle.std.proofs.lemmas.List.{get_or_append_left, get_or-append_right, leng
 use Rattle.std.proofs.lemmas.List.Elements.{Contains-append_left, Contains-append_right, Contains-append_cases, Contains-get_or}
 use Rattle.std.proofs.lemmas.Bool.{cases_Bool, cases_eq, cases_lt, eqb-true, eq-eqb}
 use Rattle.std.proofs.lemmas.Nat.{mod_below}
+use Rattle.set_assoc.specs.Entries.{lookup}
 use Rattle.conda_base.specs.declared.Line.{Line}
 use Rattle.conda_base.specs.declared.Mesi.{Mesi}
 use Rattle.conda_base.specs.declared.Mesi.TheVariants.{M, E, S}
 use Rattle.conda_base.proofs.LineLemmas.{line_by_number}
-use Rattle.line_memory.specs.Tags.{Tag, is_modified, modified, state_in, held_state, each_below}
+use Rattle.line_memory.specs.Tags.{Tag, is_modified, modified, held_state, each_below}
 use Rattle.line_memory.specs.Backing.{BackingView, IsBacking, IsDirty, shape_of}
 use Rattle.line_memory.proofs.WalkLemmas.{each_empty}
 use Rattle.line_memory.specs.Notes.{back_notes}
@@ -96,7 +97,7 @@ modified_member x (tag ∷ tags) is =
     m_of E is = absurd cc
     m_of S is = absurd cc
 
-pub modified_contains : (l : Line) (tags : List Tag) → state_in l tags ≡ Some M → Contains (modified tags) l
+pub modified_contains : (l : Line) (tags : List Tag) → lookup l tags ≡ Some M → Contains (modified tags) l
 modified_contains l [] is = absurd cc
 modified_contains l (tag ∷ tags) is =
     ⊎_elim
@@ -111,7 +112,7 @@ modified_contains l (tag ∷ tags) is =
     (cases_Bool (eqb tag.0.0 l.0))
 
 -- a line of a list that names no line twice has the state of its tag
-pub state_of_tag : (tags : List Tag) (tag : Tag) → AllPairs (λ (one : Tag) (other : Tag). one.0.0 ≢ other.0.0) tags → Contains tags tag → state_in tag.0 tags ≡ Some tag.1
+pub state_of_tag : (tags : List Tag) (tag : Tag) → AllPairs (λ (one : Tag) (other : Tag). one.0.0 ≢ other.0.0) tags → Contains tags tag → lookup tag.0 tags ≡ Some tag.1
 state_of_tag [] tag once is = absurd (none_in_nil tag is)
 state_of_tag (first ∷ tags) tag once is =
     ⊎_elim
@@ -137,10 +138,10 @@ state_of_dirty b l is dirty =
     let tag : Tag = found.0 in
     let place = found.1 in
     let at : tag.0.0 % b.sets ≡ s = ap (λ (t : Tag). t.0.0 % b.sets) (sym place.2) ∙ is.placed h s place.0 tag place.1 in
-    let state : state_in tag.0 (b.tags h s) ≡ Some tag.1 = state_of_tag (b.tags h s) tag (is.once h s) place in (
+    let state : lookup tag.0 (b.tags h s) ≡ Some tag.1 = state_of_tag (b.tags h s) tag (is.once h s) place in (
       h,
       holder.1,
-      ap (λ (k : Line). state_in k (b.tags h (k.0 % b.sets))) (sym found.2) ∙ ap (λ i. state_in tag.0 (b.tags h i)) at ∙ state ∙ ap (λ m. Some m) found.3,
+      ap (λ (k : Line). lookup k (b.tags h (k.0 % b.sets))) (sym found.2) ∙ ap (λ i. lookup tag.0 (b.tags h i)) at ∙ state ∙ ap (λ m. Some m) found.3,
     )
 
 -- the line is among the holder's lines in M

@@ -33,11 +33,11 @@ pub record UsesSome (piece : List ℕ) (used : ℕ) : Type 0 where
   pub some : 0 < length piece → 0 < used
 
 -- the first line of a piece that asks for events, and those before it
-abbrev pub Turns : {A : Type 0} → Ghosts A → Point A → Point A → List ℕ → Result Turn Fault → Type 0
-Turns m old new piece (Ok (Goes used)) = UsesSome piece used
+abbrev pub MakesTurn : {A : Type 0} → Ghosts A → Point A → Point A → List ℕ → Result Turn Fault → Type 0
+MakesTurn m old new piece (Ok (Goes used)) = UsesSome piece used
     × GoesOn m old new piece (drop used piece)
-Turns m old new piece (Ok (Ends ending)) = EndsIn m old new.streams new.run piece ending
-Turns m old new piece (Err fault) = Breaks m old new.streams piece
+MakesTurn m old new piece (Ok (Ends ending)) = EndsIn m old new.streams new.run piece ending
+MakesTurn m old new piece (Err fault) = Breaks m old new.streams piece
 
 -- all lines that a piece ends
 abbrev pub RunsPiece : {A : Type 0} → Ghosts A → Point A → Point A → List ℕ

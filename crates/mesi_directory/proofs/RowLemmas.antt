@@ -11,7 +11,7 @@ use Rattle.std.proofs.lemmas.List.{get_or-map as get_or-map_within}
 use Rattle.conda_base.specs.declared.Line.{Line}
 use Rattle.mesi_directory.specs.declared.row.Row.{Row}
 use Rattle.mesi_directory.specs.declared.row.Row.TheVariants.{Nobody, Owner, Shared}
-use Rattle.mesi_directory.specs.Rows.{Rows, IsIn, row_of, with_row, holder_bits, has, IsRow, shared_with, sharers, without, AreRows, unpacked, unpacked_rows}
+use Rattle.mesi_directory.specs.Rows.{Rows, HasRow, row_of, with_row, holder_bits, has, IsRow, shared_with, sharers, without, AreRows, unpacked, unpacked_rows}
 
 -- the bit of one holder, at each place
 bit_at_pow : (h k : ℕ) → ((k ≡ h) × (bit_at (2 ^ h) k ≡ 1)) ⊎ ((k ≢ h) × (bit_at (2 ^ h) k ≡ 0))
@@ -98,10 +98,10 @@ toggled_below row h bits row_is small is =
     rw (toggled_bits row h bits small is) (xor_lt 12 (holder_bits row) (2 ^ h) (bits_below row row_is) (pow_below h 12 small))
 
 -- the row of the line that was changed, and the row of another line
-pub row_of-with_row_same : (d : Rows) (l : Line) (row : Row) → IsIn d l → row_of (with_row d l row) l ≡ row
+pub row_of-with_row_same : (d : Rows) (l : Line) (row : Row) → HasRow d l → row_of (with_row d l row) l ≡ row
 row_of-with_row_same d l row is = get_or-set_same d.rows (l.0 - d.first) row Nobody (omega (arith, is.from, is.below))
 
-pub row_of-with_row_other : (d : Rows) (l m : Line) (row : Row) → IsIn d l → IsIn d m → m.0 ≢ l.0 → row_of (with_row d l row) m ≡ row_of d m
+pub row_of-with_row_other : (d : Rows) (l m : Line) (row : Row) → HasRow d l → HasRow d m → m.0 ≢ l.0 → row_of (with_row d l row) m ≡ row_of d m
 row_of-with_row_other d l m row is there apart =
     get_or-set_other d.rows (l.0 - d.first) (m.0 - d.first) row Nobody (λ same. apart (omega (arith, is.from, there.from, same)))
 

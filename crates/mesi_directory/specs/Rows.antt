@@ -43,7 +43,7 @@ abbrev pub AreRows : List Row → Type 0
 AreRows rows = (k : ℕ) → IsRow (slice_index_or rows k Nobody)
 
 -- there is a row for the line
-pub record IsIn (d : Rows) (l : Line) : Type 0 where
+pub record HasRow (d : Rows) (l : Line) : Type 0 where
   pub from : d.first ≤ l.0
   pub below : l.0 < d.first + length d.rows
 

@@ -1,6 +1,6 @@
 // Which hart caches hold each line.
 ghost use Rattle.std.specs.Prelude.{ℕ, ◌≡◌, ◌+◌, ◌-◌, ◌<◌, ◌≤◌, ◌==◌, ◌||◌, ◌&&◌, not, IsTrue, IfOk, length, replicate, slice_index_or, slice_set};
-ghost use Rattle.mesi_directory.specs.Rows.{Rows, IsRow, AreRows, IsIn, row_of, with_row, has, shared_with, unpacked_rows, without};
+ghost use Rattle.mesi_directory.specs.Rows.{Rows, IsRow, AreRows, HasRow, row_of, with_row, has, shared_with, unpacked_rows, without};
 ghost use Rattle.mesi_directory.specs.declared.row.Row.TheVariants.{Nobody, Owner};
 
 use crate::Row;
@@ -38,7 +38,7 @@ impl Directory {
     }
 
     fn place(&self, l: Line) -> usize
-        requires { IsIn self.now l }
+        requires { HasRow self.now l }
         ensures place { result ≡ l.0 - self.now.first }
         ensures within { result < length self.now.rows }
     {
@@ -47,7 +47,7 @@ impl Directory {
 
     /// The holders of a line.
     pub fn row(&self, l: Line) -> Row
-        requires { IsIn self.now l }
+        requires { HasRow self.now l }
         ensures value { result ≡ row_of self.now l }
         ensures valid { IsRow result }
     {
@@ -56,7 +56,7 @@ impl Directory {
 
     /// Makes `h` the owner of a line, and its only holder.
     pub fn own(&mut self, l: Line, h: u8)
-        requires line { IsIn self.old l }
+        requires line { HasRow self.old l }
         requires holder { h < 12 }
         ensures row { row_of self.new l ≡ Owner h }
         ensures holders { (k : ℕ) → has (row_of self.new l) k ≡ (k == h) }
@@ -69,7 +69,7 @@ impl Directory {
 
     /// Adds `h` to the holders of a line. All of them share it from then on, also one that owned it.
     pub fn share(&mut self, l: Line, h: u8)
-        requires line { IsIn self.old l }
+        requires line { HasRow self.old l }
         requires holder { h < 12 }
         ensures row { row_of self.new l ≡ shared_with (row_of self.old l) h }
         ensures holders { (k : ℕ) →
@@ -84,7 +84,7 @@ impl Directory {
 
     /// Takes `h`, a holder of a line, out of its holders. Those that are left share it.
     pub fn leave(&mut self, l: Line, h: u8)
-        requires line { IsIn self.old l }
+        requires line { HasRow self.old l }
         requires held { IsTrue (has (row_of self.old l) h) }
         ensures row { row_of self.new l ≡ without (row_of self.old l) h }
         ensures holders { (k : ℕ) →

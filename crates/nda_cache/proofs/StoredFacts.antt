@@ -3,25 +3,12 @@ use Rattle.std.proofs.Common.{◌≡◌, ◌≢◌, ℕ, zero, suc, ◌-◌, ◌
 use Rattle.std.proofs.lemmas.List.{get_or_append_left, get_or-append_right, length-append}
 use Rattle.std.proofs.lemmas.Bool.{cases_eq, cases_Bool, cases_lt, eq-eqb, eqb-true, false≢true, or_left, or_right}
 use Rattle.conda_base.specs.declared.Line.{Line}
-use Rattle.conda_base.specs.LineLists.{NamesOnce, names, same_line}
+use Rattle.conda_base.specs.LineLists.{NamesOnce, names}
 use Rattle.write_masks.specs.declared.Masked.{Masked}
 use Rattle.set_assoc.specs.Entries.{lookup}
 use Rattle.nda_cache.specs.Tried.{unknown, masked_or_unknown, has_marks, put_line}
 use Rattle.nda_cache.proofs.SetFacts.{test_by_apart}
 use Rattle.nda_cache.proofs.LineFacts.{known-put}
-
--- a list with one more line
-pub names-push : (stored : List Line) (l a : Line) → names (stored ++ l ∷ []) a ≡ (names stored a || same_line l a)
-names-push [] l a = go (same_line l a)
-  where
-    go : (b : Bool) → (b || false) ≡ (false || b)
-    go true = refl
-    go false = refl
-names-push (x ∷ stored) l a = go (same_line x a) (names-push stored l a)
-  where
-    go : (b : Bool) → names (stored ++ l ∷ []) a ≡ (names stored a || same_line l a) → (b || names (stored ++ l ∷ []) a) ≡ ((b || names stored a) || same_line l a)
-    go true ih = refl
-    go false ih = ih
 
 names-at : (stored : List Line) (k : ℕ) (d l : Line) → k < length stored → (get_or stored k d).0 ≡ l.0 → names stored l ≡ true
 names-at [] k d l below same = absurd (omega arith)

@@ -26,12 +26,12 @@ ghost use Rattle.std.specs.Prelude.{
 ghost use Rattle.std.specs.Option.{option_map};
 ghost use Rattle.conda_base.specs.Bytes.{value_at};
 ghost use Rattle.conda_base.specs.Lines.{IsLineSize, IsAccessSize, line_offset};
+ghost use Rattle.conda_base.specs.LineLists.{line_at};
 ghost use Rattle.conda_base.specs.Marks.{mixed};
 ghost use Rattle.write_masks.specs.Marks.{Covers};
-ghost use Rattle.nda_cache.specs.Looks.{LooksIn};
-ghost use Rattle.set_assoc.specs.SetLists.{list_of, with_list};
-ghost use Rattle.nda_cache.specs.Index.{find};
-ghost use Rattle.nda_cache.specs.Tried.{HasRoom, IsFound, IsThere, IsTried, empty, filled_from, known_of, line_at, put_line, Stores, Writes};
+ghost use Rattle.nda_cache.specs.Looks.{IsKnown, LooksIn};
+ghost use Rattle.set_assoc.specs.SetLists.{find, list_of, with_list};
+ghost use Rattle.nda_cache.specs.Tried.{HasRoom, IsFound, IsThere, IsTried, empty, filled_from, known_of, put_line, Stores, WritesLine};
 
 use conda_base::{Line, line_of, offset_of};
 use set_assoc::Sets;
@@ -54,13 +54,13 @@ impl Model for NdaCache {
     ghost use Rattle.std.specs.Prelude.{◌*◌, ◌≤◌};
     ghost use Rattle.std.specs.Vec.{vec_capacity};
     ghost use Rattle.nda_cache.specs.Tried.{Tried};
-    ghost use Rattle.nda_cache.specs.Index.{IsStore};
+    ghost use Rattle.nda_cache.specs.Index.{IsTryStore};
 
     ghost Value = { Tried };
 
     ghost view = { λ c. record { line_bytes = c.line_bytes; sets = c.sets; ways = c.ways; lines = c.lines.items; stored = c.stored.items } };
 
-    ghost invariant = { λ c. IsStore c.line_bytes c.sets c.ways c.index c.lines.items c.stored.items × (c.sets * c.ways ≤ vec_capacity c.lines) × (c.sets * c.ways ≤ vec_capacity c.stored) };
+    ghost invariant = { λ c. IsTryStore c.line_bytes c.sets c.ways c.index c.lines.items c.stored.items × (c.sets * c.ways ≤ vec_capacity c.lines) × (c.sets * c.ways ≤ vec_capacity c.stored) };
 }
 
 /// What the lines of a try have of the bytes of a load.
@@ -92,7 +92,7 @@ impl NdaCache {
     pub fn store_unless(&mut self, addr: u32, size: u8, value: u32, refused: bool) -> Stored
         requires size { IsAccessSize size }
         requires aligned { addr % size ≡ 0 }
-        ensures stores { StoresUnless self.old refused (line_at self.old addr)
+        ensures stores { StoresUnless self.old refused (line_at self.old.line_bytes addr)
             (line_offset addr self.old.line_bytes) size value result self.new }
         ensures tried { IsTried self.old }
         ensures kept { IsTried self.new }
@@ -134,7 +134,7 @@ impl NdaCache {
     pub fn look(&self, addr: u32, size: u8) -> Look
         requires size { IsAccessSize size }
         requires aligned { addr % size ≡ 0 }
-        ensures looks { Looks self.now (line_at self.now addr)
+        ensures looks { Looks self.now (line_at self.now.line_bytes addr)
             (line_offset addr self.now.line_bytes) size result }
         ensures kept { IsTried self.now }
     {
@@ -147,8 +147,8 @@ impl NdaCache {
     pub fn look_found(&self, found: Option<usize>, addr: u32, size: u8) -> Look
         requires size { IsAccessSize size }
         requires aligned { addr % size ≡ 0 }
-        requires found { IsFound self.now (line_at self.now addr) found }
-        ensures looks { Looks self.now (line_at self.now addr)
+        requires found { IsFound self.now (line_at self.now.line_bytes addr) found }
+        ensures looks { Looks self.now (line_at self.now.line_bytes addr)
             (line_offset addr self.now.line_bytes) size result }
         ensures kept { IsTried self.now }
     {
@@ -240,7 +240,7 @@ impl NdaCache {
     pub fn covered(&self, addr: u32, size: u8) -> bool
         requires size { IsAccessSize size }
         requires aligned { addr % size ≡ 0 }
-        ensures { IsTrue result ↔ Covers (known_of self.now (line_at self.now addr)).mask
+        ensures { IsTrue result ↔ Covers (known_of self.now (line_at self.now.line_bytes addr)).mask
             (line_offset addr self.now.line_bytes) size }
     {
         let line_bytes = self.line_bytes;
@@ -302,9 +302,9 @@ impl NdaCache {
     pub fn read(&self, addr: u32, size: u8) -> u32
         requires size { IsAccessSize size }
         requires aligned { addr % size ≡ 0 }
-        requires known { ((known_of self.now (line_at self.now addr)).filled ≡ true)
-            ⊎ Covers (known_of self.now (line_at self.now addr)).mask (line_offset addr self.now.line_bytes) size }
-        ensures { result ≡ value_at (known_of self.now (line_at self.now addr)).bytes
+        requires known { IsKnown self.now (line_at self.now.line_bytes addr)
+            (line_offset addr self.now.line_bytes) size }
+        ensures { result ≡ value_at (known_of self.now (line_at self.now.line_bytes addr)).bytes
             (line_offset addr self.now.line_bytes) size }
     {
         let line_bytes = self.line_bytes;
@@ -315,10 +315,10 @@ impl NdaCache {
     pub fn read_found(&self, place: usize, addr: u32, size: u8) -> u32
         requires size { IsAccessSize size }
         requires aligned { addr % size ≡ 0 }
-        requires found { IsFound self.now (line_at self.now addr) (Some place) }
-        requires known { ((known_of self.now (line_at self.now addr)).filled ≡ true)
-            ⊎ Covers (known_of self.now (line_at self.now addr)).mask (line_offset addr self.now.line_bytes) size }
-        ensures { result ≡ value_at (known_of self.now (line_at self.now addr)).bytes
+        requires found { IsFound self.now (line_at self.now.line_bytes addr) (Some place) }
+        requires known { IsKnown self.now (line_at self.now.line_bytes addr)
+            (line_offset addr self.now.line_bytes) size }
+        ensures { result ≡ value_at (known_of self.now (line_at self.now.line_bytes addr)).bytes
             (line_offset addr self.now.line_bytes) size }
     {
         let offset = offset_of(addr, self.line_bytes);
@@ -329,8 +329,7 @@ impl NdaCache {
     fn read_at(&self, l: Line, offset: usize, size: u8) -> u32
         requires size { IsAccessSize size }
         requires within { offset + size ≤ self.now.line_bytes }
-        requires known { ((known_of self.now l).filled ≡ true)
-            ⊎ Covers (known_of self.now l).mask offset size }
+        requires known { IsKnown self.now l offset size }
         ensures { result ≡ value_at (known_of self.now l).bytes offset size }
     {
         let place = self.index.peek(l).unwrap();
@@ -341,8 +340,8 @@ impl NdaCache {
     pub fn write(&mut self, addr: u32, size: u8, value: u32)
         requires size { IsAccessSize size }
         requires aligned { addr % size ≡ 0 }
-        requires room { HasRoom self.old (line_at self.old addr) }
-        ensures writes { Writes self.old self.new (line_at self.old addr)
+        requires room { HasRoom self.old (line_at self.old.line_bytes addr) }
+        ensures writes { WritesLine self.old self.new (line_at self.old.line_bytes addr)
             (line_offset addr self.old.line_bytes) size value }
         ensures kept { IsTried self.new }
     {
@@ -355,9 +354,9 @@ impl NdaCache {
     pub fn write_found(&mut self, found: Option<usize>, addr: u32, size: u8, value: u32)
         requires size { IsAccessSize size }
         requires aligned { addr % size ≡ 0 }
-        requires room { HasRoom self.old (line_at self.old addr) }
-        requires found { IsFound self.old (line_at self.old addr) found }
-        ensures writes { Writes self.old self.new (line_at self.old addr)
+        requires room { HasRoom self.old (line_at self.old.line_bytes addr) }
+        requires found { IsFound self.old (line_at self.old.line_bytes addr) found }
+        ensures writes { WritesLine self.old self.new (line_at self.old.line_bytes addr)
             (line_offset addr self.old.line_bytes) size value }
         ensures tried { IsTried self.old }
         ensures kept { IsTried self.new }
@@ -373,7 +372,7 @@ impl NdaCache {
         requires within { offset + size ≤ self.old.line_bytes }
         requires room { HasRoom self.old l }
         requires found { IsFound self.old l found }
-        ensures writes { Writes self.old self.new l offset size value }
+        ensures writes { WritesLine self.old self.new l offset size value }
         ensures kept { IsTried self.new }
     {
         let place = self.place_for(l, found);

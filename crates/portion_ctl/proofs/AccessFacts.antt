@@ -18,13 +18,13 @@ use Rattle.conda_base.specs.LineLists.{line_at, names, with_new}
 use Rattle.try_runs.specs.Tries.{is_covered, outside_line, seen, stored_lines, with_line}
 use Rattle.try_runs.specs.Fills.{Fills, byte_of, corefill_notes, fills_with, new_line}
 use Rattle.try_runs.specs.Ends.{is_set_full, is_sign_full}
-use Rattle.try_runs.proofs.LineFacts.{names-itself}
+use Rattle.conda_base.proofs.LineListLemmas.{names-itself}
 use Rattle.try_runs.proofs.CachedFacts.{set_size}
 use Rattle.try_runs.proofs.StoreFacts.{stored_lines-bytes}
 use Rattle.bloom_sig.specs.Images.{IsSignatureOf}
 use Rattle.bloom_sig.specs.Signatures.{Sets, inserted, is_full_for}
 use Rattle.portion_ctl.specs.Stands.{HoldsLines, lines_near}
-use Rattle.portion_ctl.specs.Looks.{IsRoom, Looks, Takes, end_of_load, line_known, take_notes, with_fill}
+use Rattle.portion_ctl.specs.Looks.{LooksUp, TakesValue, end_of_load, line_known, take_notes, with_fill}
 use Rattle.portion_ctl.proofs.LoadFacts.{HoldsLines-filled, Lies, covered-stored, stored-covered, value-seen}
 use Rattle.portion_ctl.proofs.PutFacts.{in_line}
 use Rattle.portion_ctl.proofs.SignatureFacts.{inserted-new, is_full_for-lines, listed_member}
@@ -71,7 +71,7 @@ known-no_overfill s limit lines l is there =
     sym (is_full_for-lines s s.bits limit lines l refl is) ∙ ap (λ b. not b && eqb s.fill limit) (listed_member s lines l is there)
 
 pub load-cause : (cache : Tried) (s : Sets) (stores : List (ℕ × ℕ)) (reads : List Line) (fills : Fills) (addr size limit : ℕ) (look : Look) (later : Option ℕ)
-    → IsTried cache → Lies cache.line_bytes addr size → HoldsLines cache stores reads fills → IsSignatureOf s reads → Looks cache addr size look
+    → IsTried cache → Lies cache.line_bytes addr size → HoldsLines cache stores reads fills → IsSignatureOf s reads → LooksUp cache addr size look
     → cond (is_set_full cache.sets cache.ways (lines_near cache.line_bytes stores reads) (Some (line_at cache.line_bytes addr))) (Some 4)
     (cond (is_sign_full s.bits limit reads (span_line cache stores addr size)) (Some 5) later)
     ≡ or_else (end_of_load look (is_full_for s (line_at cache.line_bytes addr) limit)) later
@@ -105,17 +105,6 @@ load-cause cache s stores reads fills addr size limit Full later is lie holds si
     ap (λ b. cond b (Some 4) (cond (is_sign_full s.bits limit reads (span_line cache stores addr size)) (Some 5) later))
     (full-overflow cache stores reads fills (line_at cache.line_bytes addr) is holds looks)
 
-pub no_end-room : (look : Look) (is_full : Bool) → end_of_load look is_full ≡ None → IsRoom look
-no_end-room (Known value) is_full none = tt
-no_end-room Missing is_full none = tt
-no_end-room Full is_full none = absurd cc
-
--- a look that leaves room is at a line that has it
-pub look-room : (cache : Tried) (addr size : ℕ) (look : Look) → Looks cache addr size look → IsRoom look → HasRoom cache (line_at cache.line_bytes addr)
-look-room cache addr size (Known value) looks room = looks.1
-look-room cache addr size Missing looks room = looks.room
-look-room cache addr size Full looks room = absurd room
-
 -- ---- what a load does
 
 pub record LoadDone (memory : BackingView) (cache after_cache : Tried) (after_reads : Sets) (stores : List (ℕ × ℕ)) (reads : List Line) (fills : Fills) (addr size : ℕ) (look : Look) (value : ℕ) (outside : Option Line) : Type 0 where
@@ -126,8 +115,8 @@ pub record LoadDone (memory : BackingView) (cache after_cache : Tried) (after_re
 
 pub load-done : (memory : BackingView) (cache : Tried) (s : Sets) (stores : List (ℕ × ℕ)) (reads : List Line) (fills : Fills) (addr size : ℕ) (look : Look)
     (after_cache : Tried) (after_reads : Sets) (value : ℕ)
-    → IsTried cache → Lies cache.line_bytes addr size → HoldsLines cache stores reads fills → IsSignatureOf s reads → Looks cache addr size look
-    → Takes memory cache s (line_at cache.line_bytes addr) addr size look after_cache after_reads value
+    → IsTried cache → Lies cache.line_bytes addr size → HoldsLines cache stores reads fills → IsSignatureOf s reads → LooksUp cache addr size look
+    → TakesValue memory cache s (line_at cache.line_bytes addr) addr size look after_cache after_reads value
     → LoadDone memory cache after_cache after_reads stores reads fills addr size look value (span_line cache stores addr size)
 load-done memory cache s stores reads fills addr size Full after_cache after_reads value is lie holds sig looks takes = absurd takes
 load-done memory cache s stores reads fills addr size (Known known) after_cache after_reads value is lie holds sig looks takes =

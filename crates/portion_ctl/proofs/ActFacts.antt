@@ -9,7 +9,7 @@ use Rattle.rv32_hart.specs.declared.act.Access.{Access}
 use Rattle.rv32_hart.specs.declared.act.Access.TheVariants as Access_is
 use Rattle.rv32_hart.specs.declared.act.Planned.{Planned}
 use Rattle.rv32_hart.specs.Code.{CodeView}
-use Rattle.rv32_hart.specs.Act.{AccessFits, IsAccess, IsPlan, after, plan_of, value_of, is_call_access}
+use Rattle.rv32_hart.specs.Act.{after, plan_of, value_of, is_call_access}
 use Rattle.offload_calls.specs.declared.status.CoreStatus.TheVariants as Core_is
 use Rattle.offload_calls.specs.Effects.{loaded, span_of_access, stores_of_access}
 use Rattle.offload_calls.specs.CoreActs.{KernelEffect, core_runs, kernel_effect, kernel_call_effect, kernel_instr_effect}
@@ -22,34 +22,12 @@ use Rattle.try_runs.specs.Tries.{Try, acted_by, effect_by, seen, stored_lines, t
 use Rattle.try_runs.specs.Fills.{Fills, byte_of, corefill_notes, filled_by, fills_with, next_fill}
 use Rattle.try_runs.specs.Ends.{end_of, is_done, is_out_full, is_trapped}
 use Rattle.bloom_sig.specs.Images.{IsSignatureOf}
-use Rattle.portion_ctl.specs.Stands.{HasSizes, Holds, HoldsLines}
-use Rattle.portion_ctl.specs.States.{FitsMemory}
-use Rattle.portion_ctl.specs.Bodies.{AccessIn, ActsOn, ActsOrEnds, Calls, CallsOrEnds, ChangesLines, Exchanges, HasParts, IsAccessIn, Performs, PerformsOrEnds, PlanIn, cause_by, is_full_put, opened_of}
+use Rattle.portion_ctl.specs.Stands.{Holds, HoldsLines}
+use Rattle.portion_ctl.specs.Bodies.{ActsOn, ActsOrEnds, Calls, CallsOrEnds, ChangesLines, Exchanges, HasParts, Performs, PerformsOrEnds, cause_by, is_full_put, opened_of}
 
 -- ---- a plan that lies in memory
 
-access-in : (code : CodeView) (memory : BackingView) (n addr size : ℕ) → FitsMemory code memory n → IsAccess code addr size → IsAccessIn memory n addr size
-access-in code memory n addr size fits is =
-    let base = fits.base in
-    let bytes = fits.bytes in
-    let from = is.from in
-    let to = is.to in
-    record { sized = is.size; aligned = is.aligned; from = omega arith; to = omega arith; lines = fits.lines }
-
-accesses-in : (code : CodeView) (memory : BackingView) (n : ℕ) (access : Access) → FitsMemory code memory n → AccessFits code access → AccessIn memory n access
-accesses-in code memory n Access_is.Nothing fits is = tt
-accesses-in code memory n (Access_is.Load addr size signed rd) fits is = access-in code memory n addr size fits is.0
-accesses-in code memory n (Access_is.Store addr size value) fits is = access-in code memory n addr size fits is
-accesses-in code memory n (Access_is.Amo addr op rd value) fits is = access-in code memory n addr 4 fits is.0
-accesses-in code memory n Access_is.Call fits is = tt
-
-pub plan-in : (code : CodeView) (memory : BackingView) (n : ℕ) (p : Planned) → FitsMemory code memory n → IsPlan code p → PlanIn memory n p
-plan-in code memory n p fits is = record { fields = is.fields; access = accesses-in code memory n p.access fits is.access; call = is.call }
-
 -- ---- sizes
-
-sizes-of : (b : Body) → HasParts b → HasSizes (opened_of b)
-sizes-of b parts = record { lines = refl; sets = refl; ways = refl; reads = refl; writes = parts.writes; foreign = parts.foreign }
 
 -- two bodies of the same limits have lines of one size
 pub same-lines : (old new : Body) → HasParts old → HasParts new → new.limits ≡ old.limits → new.cache.line_bytes ≡ old.cache.line_bytes

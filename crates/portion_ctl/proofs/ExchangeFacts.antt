@@ -5,7 +5,7 @@ use Rattle.std.specs.Prelude.{is_some}
 use Rattle.std.proofs.lemmas.List.{append-nil}
 use Rattle.conda_base.specs.declared.Line.{Line}
 use Rattle.conda_base.specs.Lines.{IsAccessSize, line_number}
-use Rattle.nda_cache.proofs.SetFacts.{same_line}
+use Rattle.conda_base.proofs.LineLemmas.{line_by_number}
 use Rattle.nda_cache.proofs.LineFacts.{known-put}
 use Rattle.rv32_decode.specs.declared.instr.AmoOp.{AmoOp}
 use Rattle.rv32_hart.specs.declared.act.Access.TheVariants as Access_is
@@ -27,15 +27,15 @@ use Rattle.try_runs.specs.Ends.{is_sign_full}
 use Rattle.bloom_sig.specs.Images.{IsSignatureOf}
 use Rattle.bloom_sig.specs.Signatures.{Sets, inserted, is_full_for}
 use Rattle.portion_ctl.specs.Stands.{Holds, HoldsLines}
-use Rattle.portion_ctl.specs.Bodies.{Exchanges, HasParts, Puts, cause_of_access, fill_of_access, limits_in, opened_of, outside_of}
-use Rattle.portion_ctl.specs.Looks.{Looks, Takes, end_of_load, take_notes}
+use Rattle.portion_ctl.specs.Bodies.{Exchanges, HasParts, PutsInCache, cause_of_access, fill_of_access, limits_in, opened_of, outside_of}
+use Rattle.portion_ctl.specs.Looks.{LooksUp, TakesValue, end_of_load, take_notes}
 use Rattle.portion_ctl.proofs.LoadFacts.{Lies, lies}
 use Rattle.portion_ctl.proofs.PutFacts.{HoldsLines-put}
 use Rattle.portion_ctl.proofs.AccessFacts.{end_of_store, full-cause, load-cause, load-done, or_else, room-cause, store-cause, written-lines}
 
 -- the line that the code looks up
 pub line-at : (b : Body) (l : Line) (addr : ℕ) → HasParts b → l.0 ≡ line_number addr b.limits.line_bytes → l ≡ line_at b.cache.line_bytes addr
-line-at b l addr parts is = same_line l (line_at b.cache.line_bytes addr) (is ∙ ap (λ (x : Limits). line_number addr x.line_bytes) parts.is)
+line-at b l addr parts is = line_by_number l (line_at b.cache.line_bytes addr) (is ∙ ap (λ (x : Limits). line_number addr x.line_bytes) parts.is)
 
 -- what every access of a try needs
 pub record Accesses (b : Body) (t : Try) (fills : Fills) (addr size : ℕ) (l : Line) : Type 0 where
@@ -48,26 +48,26 @@ pub record Accesses (b : Body) (t : Try) (fills : Fills) (addr size : ℕ) (l : 
 
 -- the cause that stands against a load, or else against what comes later
 ends_by_look : (b : Body) (t : Try) (fills : Fills) (addr size : ℕ) (l : Line) (look : Look) (found later : Option ℕ) → Accesses b t fills addr size l
-    → Looks b.cache addr size look → found ≡ end_of_load look (is_full_for b.read_set l b.limits.read_limit)
+    → LooksUp b.cache addr size look → found ≡ end_of_load look (is_full_for b.read_set l b.limits.read_limit)
     → or_else (end_of_load look (is_full_for b.read_set (line_at b.cache.line_bytes addr) b.limits.read_limit)) later ≡ or_else found later
 ends_by_look b t fills addr size l look found later a looks is =
     ap (λ k. or_else (end_of_load look (is_full_for b.read_set k b.limits.read_limit)) later) (sym a.line) ∙ ap (λ o. or_else o later) (sym is)
 
 pub load-ends : (b : Body) (t : Try) (fills : Fills) (addr size : ℕ) (l : Line) (look : Look) (found : Option ℕ) (signed : Bool) (rd : ℕ) → Accesses b t fills addr size l
-    → Looks b.cache addr size look → found ≡ end_of_load look (is_full_for b.read_set l b.limits.read_limit)
+    → LooksUp b.cache addr size look → found ≡ end_of_load look (is_full_for b.read_set l b.limits.read_limit)
     → cause_of_access (opened_of b).limits t (Access_is.Load addr size signed rd) ≡ or_else found None
 load-ends b t fills addr size l look found signed rd a looks is =
     load-cause b.cache b.read_set t.stored t.reads fills addr size b.limits.read_limit look None a.is (lies b.cache addr size a.is a.sized a.aligned) a.holds.lines a.holds.reads looks
     ∙ ends_by_look b t fills addr size l look found None a looks is
 
 pub load-exchanges : (memory : BackingView) (b : Body) (t : Try) (fills : Fills) (addr size : ℕ) (l : Line) (look : Look) (cache : Tried) (reads : Sets) (value : ℕ)
-    (before after : Trace) (signed : Bool) (rd : ℕ) → Accesses b t fills addr size l → Looks b.cache addr size look
-    → Takes memory b.cache b.read_set l addr size look cache reads value → after ≡ all_noted before (take_notes b.core l look)
+    (before after : Trace) (signed : Bool) (rd : ℕ) → Accesses b t fills addr size l → LooksUp b.cache addr size look
+    → TakesValue memory b.cache b.read_set l addr size look cache reads value → after ≡ all_noted before (take_notes b.core l look)
     → Exchanges memory (opened_of b) (opened_of (record b { cache = cache; read_set = reads })) t fills (Access_is.Load addr size signed rd) value before after
 load-exchanges memory b t fills addr size l look cache reads value before after signed rd a looks takes notes =
     let lie = lies b.cache addr size a.is a.sized a.aligned in
-    let at : Takes memory b.cache b.read_set (line_at b.cache.line_bytes addr) addr size look cache reads value =
-    subst (λ k. Takes memory b.cache b.read_set k addr size look cache reads value) a.line takes in
+    let at : TakesValue memory b.cache b.read_set (line_at b.cache.line_bytes addr) addr size look cache reads value =
+    subst (λ k. TakesValue memory b.cache b.read_set k addr size look cache reads value) a.line takes in
     let done = load-done memory b.cache b.read_set t.stored t.reads fills addr size look cache reads value a.is lie a.holds.lines a.holds.reads looks at in
     record {
       loads = done.loads;
@@ -103,7 +103,7 @@ store-ends b t fills addr size value l found a room is =
     ∙ ends_by_store b t fills addr size l found a is
 
 pub store-exchanges : (memory : BackingView) (b : Body) (t : Try) (fills : Fills) (addr size value : ℕ) (l : Line) (cache : Tried) (writes : Sets) (trace : Trace)
-    → Accesses b t fills addr size l → Puts b.cache cache addr size value → writes ≡ inserted b.write_set l
+    → Accesses b t fills addr size l → PutsInCache b.cache cache addr size value → writes ≡ inserted b.write_set l
     → Exchanges memory (opened_of b) (opened_of (record b { cache = cache; write_set = writes })) t fills (Access_is.Store addr size value) 0 trace trace
 store-exchanges memory b t fills addr size value l cache writes trace a puts wrote =
     let lie = lies b.cache addr size a.is a.sized a.aligned in
@@ -119,7 +119,7 @@ store-exchanges memory b t fills addr size value l cache writes trace a puts wro
 -- ---- atomics
 
 pub atomic-ends : (b : Body) (t : Try) (fills : Fills) (addr : ℕ) (op : AmoOp) (rd word : ℕ) (l : Line) (look : Look) (found stored : Option ℕ) → Accesses b t fills addr 4 l
-    → Looks b.cache addr 4 look → found ≡ end_of_load look (is_full_for b.read_set l b.limits.read_limit)
+    → LooksUp b.cache addr 4 look → found ≡ end_of_load look (is_full_for b.read_set l b.limits.read_limit)
     → stored ≡ end_of_store (is_full_for b.write_set l b.limits.write_limit)
     → cause_of_access (opened_of b).limits t (Access_is.Amo addr op rd word) ≡ or_else found stored
 atomic-ends b t fills addr op rd word l look found stored a looks is stores =
@@ -131,14 +131,14 @@ atomic-ends b t fills addr op rd word l look found stored a looks is stores =
 
 -- a load keeps the size of a line
 pub taken-line_bytes : (memory : BackingView) (cache : Tried) (reads : Sets) (l : Line) (addr size : ℕ) (look : Look) (after_cache : Tried) (after_reads : Sets) (value : ℕ)
-    → Takes memory cache reads l addr size look after_cache after_reads value → after_cache.line_bytes ≡ cache.line_bytes
+    → TakesValue memory cache reads l addr size look after_cache after_reads value → after_cache.line_bytes ≡ cache.line_bytes
 taken-line_bytes memory cache reads l addr size (Known known) after_cache after_reads value takes = ap (λ (t : Tried). t.line_bytes) takes.0
 taken-line_bytes memory cache reads l addr size Missing after_cache after_reads value takes = ap (λ (t : Tried). t.line_bytes) takes.0
 taken-line_bytes memory cache reads l addr size Full after_cache after_reads value takes = absurd takes
 
 -- and leaves room for the line
 pub taken-room : (memory : BackingView) (cache : Tried) (reads : Sets) (l : Line) (addr size : ℕ) (look : Look) (after_cache : Tried) (after_reads : Sets) (value : ℕ)
-    → l ≡ line_at cache.line_bytes addr → Looks cache addr size look → Takes memory cache reads l addr size look after_cache after_reads value → HasRoom after_cache l
+    → l ≡ line_at cache.line_bytes addr → LooksUp cache addr size look → TakesValue memory cache reads l addr size look after_cache after_reads value → HasRoom after_cache l
 taken-room memory cache reads l addr size (Known known) after_cache after_reads value line looks takes =
     subst (λ (t : Tried). HasRoom t l) (sym takes.0) (subst (λ k. HasRoom cache k) (sym line) looks.1)
 taken-room memory cache reads l addr size Missing after_cache after_reads value line looks takes =
@@ -147,15 +147,15 @@ taken-room memory cache reads l addr size Missing after_cache after_reads value 
 taken-room memory cache reads l addr size Full after_cache after_reads value line looks takes = absurd takes
 
 pub atomic-exchanges : (memory : BackingView) (b : Body) (t : Try) (fills : Fills) (addr : ℕ) (op : AmoOp) (rd word : ℕ) (l : Line) (look : Look) (middle cache : Tried) (reads writes : Sets) (value : ℕ)
-    (before after : Trace) → Accesses b t fills addr 4 l → Looks b.cache addr 4 look
-    → Takes memory b.cache b.read_set l addr 4 look middle reads value → after ≡ all_noted before (take_notes b.core l look)
-    → Puts middle cache addr 4 (amo_result op value word) → writes ≡ inserted b.write_set l
+    (before after : Trace) → Accesses b t fills addr 4 l → LooksUp b.cache addr 4 look
+    → TakesValue memory b.cache b.read_set l addr 4 look middle reads value → after ≡ all_noted before (take_notes b.core l look)
+    → PutsInCache middle cache addr 4 (amo_result op value word) → writes ≡ inserted b.write_set l
     → Exchanges memory (opened_of b) (opened_of (record b { cache = cache; read_set = reads; write_set = writes })) t fills (Access_is.Amo addr op rd word) value before after
 atomic-exchanges memory b t fills addr op rd word l look middle cache reads writes value before after a looks takes notes puts wrote =
     let lie = lies b.cache addr 4 a.is a.sized a.aligned in
     let same = taken-line_bytes memory b.cache b.read_set l addr 4 look middle reads value takes in
-    let at : Takes memory b.cache b.read_set (line_at b.cache.line_bytes addr) addr 4 look middle reads value =
-    subst (λ k. Takes memory b.cache b.read_set k addr 4 look middle reads value) a.line takes in
+    let at : TakesValue memory b.cache b.read_set (line_at b.cache.line_bytes addr) addr 4 look middle reads value =
+    subst (λ k. TakesValue memory b.cache b.read_set k addr 4 look middle reads value) a.line takes in
     let done = load-done memory b.cache b.read_set t.stored t.reads fills addr 4 look middle reads value a.is lie a.holds.lines a.holds.reads looks at in
     let lines : writes ≡ inserted b.write_set (line_at b.cache.line_bytes addr) = wrote ∙ ap (inserted b.write_set) a.line in
     record {
@@ -175,7 +175,7 @@ pub record KeepsSizes (limits : Limits) (cache after_cache : Tried) (reads after
   pub bits : after_reads.bits ≡ reads.bits
 
 pub taken-sizes : (memory : BackingView) (limits : Limits) (cache : Tried) (reads : Sets) (l : Line) (addr size : ℕ) (look : Look) (after_cache : Tried) (after_reads : Sets) (value : ℕ)
-    → Takes memory cache reads l addr size look after_cache after_reads value → KeepsSizes limits cache after_cache reads after_reads
+    → TakesValue memory cache reads l addr size look after_cache after_reads value → KeepsSizes limits cache after_cache reads after_reads
 taken-sizes memory limits cache reads l addr size (Known known) after_cache after_reads value takes = record {
   limits_same = ap (λ (t : Tried). limits_in limits t after_reads) takes.0 ∙ ap (λ (s : Sets). limits_in limits cache s) takes.1;
   bits = ap (λ (s : Sets). s.bits) takes.1;
@@ -189,7 +189,7 @@ taken-sizes memory limits cache reads l addr size Full after_cache after_reads v
 
 -- the parts after a load that fills its line
 pub load-parts : (memory : BackingView) (b : Body) (l : Line) (addr size : ℕ) (cache : Tried) (reads : Sets) (value : ℕ)
-    → HasParts b → Takes memory b.cache b.read_set l addr size Missing cache reads value → HasParts (record b { cache = cache; read_set = reads })
+    → HasParts b → TakesValue memory b.cache b.read_set l addr size Missing cache reads value → HasParts (record b { cache = cache; read_set = reads })
 load-parts memory b l addr size cache reads value parts takes =
     let sizes = taken-sizes memory b.limits b.cache b.read_set l addr size Missing cache reads value takes in
     record {
@@ -205,7 +205,7 @@ load-parts memory b l addr size cache reads value parts takes =
 
 -- the parts after an atomic
 pub atomic-parts : (memory : BackingView) (b : Body) (l : Line) (addr word : ℕ) (look : Look) (middle cache : Tried) (reads writes : Sets) (value : ℕ)
-    → HasParts b → Takes memory b.cache b.read_set l addr 4 look middle reads value → Puts middle cache addr 4 word → writes ≡ inserted b.write_set l
+    → HasParts b → TakesValue memory b.cache b.read_set l addr 4 look middle reads value → PutsInCache middle cache addr 4 word → writes ≡ inserted b.write_set l
     → HasParts (record b { cache = cache; read_set = reads; write_set = writes })
 atomic-parts memory b l addr word look middle cache reads writes value parts takes puts wrote =
     let sizes = taken-sizes memory b.limits b.cache b.read_set l addr 4 look middle reads value takes in

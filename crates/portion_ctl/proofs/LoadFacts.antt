@@ -7,19 +7,18 @@ use Rattle.conda_base.specs.declared.Line.{Line}
 use Rattle.conda_base.specs.Lines.{IsAccessSize, line_offset}
 use Rattle.conda_base.specs.Bytes.{value_at}
 use Rattle.conda_base.specs.Marks.{is_marked}
-use Rattle.conda_base.proofs.LineLemmas.{line_split, line_number_of_place, line_offset_of_place, access_in_line, line_size_bounds}
+use Rattle.conda_base.proofs.LineLemmas.{line_by_number, line_split, line_number_of_place, line_offset_of_place, access_in_line, line_size_bounds}
 use Rattle.conda_base.proofs.MarkLemmas.{get_or-mixed}
 use Rattle.write_masks.specs.declared.Masked.{Masked}
 use Rattle.offload_calls.specs.Stores.{latest, number_at}
 use Rattle.set_assoc.specs.Entries.{lookup}
 use Rattle.nda_cache.specs.Tried.{Tried, IsTried, IsLine, known_of, filled_from}
-use Rattle.nda_cache.proofs.SetFacts.{same_line}
 use Rattle.conda_base.specs.Bytes.{handed_out}
 use Rattle.line_memory.specs.Backing.{BackingView, copy_of}
 use Rattle.conda_base.specs.LineLists.{line_at, names}
 use Rattle.try_runs.specs.Tries.{is_covered, is_stored, seen, stored_lines}
 use Rattle.try_runs.specs.Fills.{Fills, byte_of, fills_with}
-use Rattle.try_runs.proofs.LineFacts.{names-push, or_false, same_line-swap}
+use Rattle.conda_base.proofs.LineListLemmas.{names-push, or_false, same_line-swap}
 use Rattle.try_runs.proofs.CachedFacts.{names-cached, one_of, set_size, set_size-read}
 use Rattle.try_runs.proofs.StoreFacts.{are_stored_at, are_stored_from, stored_lines-distinct}
 use Rattle.offload_calls.proofs.StoreLemmas.{latest-elsewhere, latest_stored}
@@ -49,7 +48,7 @@ lies cache addr size is access aligned =
 pub seen-in : (n : ℕ) (fills : Fills) (stores : List (ℕ × ℕ)) (l : Line) (k : ℕ) → k < n
     → seen (byte_of n fills) stores (address_in n l k) ≡ latest stores (address_in n l k) (slice_index (fills l) k)
 seen-in n fills stores l k within =
-    let line : line_at n (address_in n l k) ≡ l = same_line (line_at n (address_in n l k)) l (line_number_of_place l.0 n k within) in
+    let line : line_at n (address_in n l k) ≡ l = line_by_number (line_at n (address_in n l k)) l (line_number_of_place l.0 n k within) in
     let place : line_offset (address_in n l k) n ≡ k = line_offset_of_place l.0 n k within in
     ap (λ x. latest stores (address_in n l k) (slice_index (fills x) (line_offset (address_in n l k) n))) line
     ∙ ap (λ i. latest stores (address_in n l k) (slice_index (fills l) i)) place
@@ -205,7 +204,7 @@ HoldsLines-filled memory cache stores reads fills l is out holds = record {
     line : (k : Line) (b : Bool) → eqb l.0 k.0 ≡ b
         → HoldsLine cache.line_bytes stores (names (reads ++ l ∷ []) k) (fills_with fills (copy_of memory) (Some l) k) k (known_of (with_fill memory cache l) k)
     line k true e =
-        let same : l ≡ k = same_line l k (eqb-true l.0 k.0 e) in
+        let same : l ≡ k = line_by_number l k (eqb-true l.0 k.0 e) in
         let P : Line → Type 0 = λ x. HoldsLine cache.line_bytes stores (names (reads ++ l ∷ []) x) (fills_with fills (copy_of memory) (Some l) x) x (known_of (with_fill memory cache l) x) in
         subst P same at_line
     line k false e =

@@ -8,19 +8,18 @@ use Rattle.std.proofs.lemmas.Bool.Decides.{nat_tests}
 use Rattle.conda_base.specs.declared.Line.{Line}
 use Rattle.conda_base.specs.Lines.{IsAccessSize, line_number, line_offset}
 use Rattle.conda_base.specs.Marks.{is_marked}
-use Rattle.conda_base.proofs.LineLemmas.{line_split, line_number_of_place, line_number-add, line_size_bounds, access_size_cases}
+use Rattle.conda_base.proofs.LineLemmas.{line_by_number, line_split, line_number_of_place, line_number-add, line_size_bounds, access_size_cases}
 use Rattle.std.proofs.Math.Nat.{mod-lt}
 use Rattle.write_masks.specs.declared.Masked.{Masked}
 use Rattle.write_masks.specs.Marks.{is_within}
 use Rattle.offload_calls.specs.Stores.{bytes_from, latest}
 use Rattle.set_assoc.specs.Entries.{lookup}
-use Rattle.nda_cache.specs.Tried.{Tried, IsTried, IsLine, Stores, Writes, known_of, put_line, stored_after}
-use Rattle.nda_cache.proofs.SetFacts.{same_line}
+use Rattle.nda_cache.specs.Tried.{Tried, IsTried, IsLine, Stores, WritesLine, known_of, put_line, stored_after}
 use Rattle.conda_base.specs.LineLists.{line_at, names, with_new}
 use Rattle.try_runs.specs.Tries.{is_stored, stored_lines}
 use Rattle.try_runs.specs.Fills.{Fills}
 use Rattle.try_runs.specs.Ends.{cached}
-use Rattle.try_runs.proofs.LineFacts.{names-with_new, or_false}
+use Rattle.conda_base.proofs.LineListLemmas.{names-with_new, or_false}
 use Rattle.try_runs.proofs.CachedFacts.{names-cached, one_of, set_size, set_size-written}
 use Rattle.try_runs.proofs.StoreFacts.{is_stored-append, lines_then, stored_lines-bytes}
 use Rattle.offload_calls.proofs.StoreLemmas.{latest-append, latest-elsewhere, latest_stored}
@@ -109,7 +108,7 @@ pub in_line : (n addr size : ℕ) → Lies n addr size → (x : ℕ) → addr �
 in_line n addr size lie x low high =
     let room = lie.room in
     let there : addr + (x - addr) ≡ x = omega arith in
-    same_line _ _ (ap (λ a. line_number a n) (sym there) ∙ line_number-add addr (x - addr) n (omega arith))
+    line_by_number _ _ (ap (λ a. line_number a n) (sym there) ∙ line_number-add addr (x - addr) n (omega arith))
 
 -- a line that is stored into
 HoldsLine-put : (n : ℕ) (stores : List (ℕ × ℕ)) (r : Bool) (fill : List ℕ) (addr size value : ℕ) (old new : Masked)
@@ -240,7 +239,7 @@ put_into old masked stores reads fills addr size value l at is lie access holds 
     line : (k : Line) (b : Bool) → eqb l.0 k.0 ≡ b
         → HoldsLine old.line_bytes (stores ++ bytes_from addr size value) (names reads k) (fills k) k (known_of (with_known old l masked) k)
     line k true e =
-        let same : l ≡ k = same_line l k (eqb-true l.0 k.0 e) in
+        let same : l ≡ k = line_by_number l k (eqb-true l.0 k.0 e) in
         let P : Line → Type 0 = λ x. HoldsLine old.line_bytes (stores ++ bytes_from addr size value) (names reads x) (fills x) x (known_of (with_known old l masked) x) in
         subst P same
         (subst (λ m. HoldsLine old.line_bytes (stores ++ bytes_from addr size value) (names reads l) (fills l) l m) (sym (known_of-same old l masked)) at_line)
@@ -252,7 +251,7 @@ put_into old masked stores reads fills addr size value l at is lie access holds 
 -- the cache with a store into it
 pub HoldsLines-put : (old new : Tried) (stores : List (ℕ × ℕ)) (reads : List Line) (fills : Fills) (addr size value : ℕ)
     → IsTried old → Lies old.line_bytes addr size → IsAccessSize size → HoldsLines old stores reads fills
-    → Writes old new (line_at old.line_bytes addr) (line_offset addr old.line_bytes) size value
+    → WritesLine old new (line_at old.line_bytes addr) (line_offset addr old.line_bytes) size value
     → HoldsLines new (stores ++ bytes_from addr size value) reads fills
 HoldsLines-put old new stores reads fills addr size value is lie access holds put =
     subst (λ (t : Tried). HoldsLines t (stores ++ bytes_from addr size value) reads fills) (sym put.others)

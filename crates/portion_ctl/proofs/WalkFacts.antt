@@ -4,12 +4,13 @@ use Rattle.std.specs.List.{AllPairs}
 use Rattle.std.proofs.lemmas.Bool.{eqb-true, ne_eqb}
 use Rattle.std.proofs.lemmas.List.{append-nil}
 use Rattle.std.proofs.lemmas.List.Sums.{fold-append}
+use Rattle.set_assoc.specs.Entries.{lookup}
 use Rattle.conda_base.specs.declared.Line.{Line}
 use Rattle.conda_base.specs.declared.Mesi.{Mesi}
 use Rattle.line_memory.specs.Access.{after_flush}
 use Rattle.line_memory.specs.Backing.{BackingView, IsBacking, IsFirstDirty, dirty_from, flushed, shape_of}
 use Rattle.line_memory.specs.Notes.{all_noted, back_notes, flush_notes, flushes_notes}
-use Rattle.line_memory.specs.Tags.{Tag, Tags, Shape, state_in, set_of, cleaned_state, cleaned_line}
+use Rattle.line_memory.specs.Tags.{Tag, Tags, Shape, set_of, cleaned_state, cleaned_line}
 use Rattle.line_memory.proofs.WalkLemmas.{dirty_after_flush, each_same}
 use Rattle.traffic_trace.specs.declared.note.Note.{Note}
 use Rattle.traffic_trace.specs.Notes.{Trace, noted}
@@ -42,22 +43,22 @@ flush-step b from place l log is first =
 -- ---- the notes are those from the tags before
 
 -- the flush of a line leaves the state of another
-state_in-cleaned : (l k : Line) (tags : List Tag) → l.0 ≢ k.0 → state_in k (cleaned_line l tags) ≡ state_in k tags
-state_in-cleaned l k [] apart = refl
-state_in-cleaned l k (tag ∷ tags) apart = go (eqb tag.0.0 l.0) refl (state_in-cleaned l k tags apart)
+lookup-cleaned : (l k : Line) (tags : List Tag) → l.0 ≢ k.0 → lookup k (cleaned_line l tags) ≡ lookup k tags
+lookup-cleaned l k [] apart = refl
+lookup-cleaned l k (tag ∷ tags) apart = go (eqb tag.0.0 l.0) refl (lookup-cleaned l k tags apart)
   where
-    go : (b : Bool) → eqb tag.0.0 l.0 ≡ b → state_in k (cleaned_line l tags) ≡ state_in k tags
-        → state_in k (cond b (tag.0, cleaned_state tag.1) tag ∷ cleaned_line l tags) ≡ cond (eqb tag.0.0 k.0) (Some tag.1) (state_in k tags)
+    go : (b : Bool) → eqb tag.0.0 l.0 ≡ b → lookup k (cleaned_line l tags) ≡ lookup k tags
+        → lookup k (cond b (tag.0, cleaned_state tag.1) tag ∷ cleaned_line l tags) ≡ cond (eqb tag.0.0 k.0) (Some tag.1) (lookup k tags)
     go false e rest = ap (λ o. cond (eqb tag.0.0 k.0) (Some tag.1) o) rest
     go true e rest =
         let off : eqb tag.0.0 k.0 ≡ false = ne_eqb tag.0.0 k.0 (λ same. apart (sym (eqb-true tag.0.0 l.0 e) ∙ same)) in
-        ap (λ b. cond b (Some (cleaned_state tag.1)) (state_in k (cleaned_line l tags))) off
+        ap (λ b. cond b (Some (cleaned_state tag.1)) (lookup k (cleaned_line l tags))) off
         ∙ rest
-        ∙ sym (ap (λ b. cond b (Some tag.1) (state_in k tags)) off)
+        ∙ sym (ap (λ b. cond b (Some tag.1) (lookup k tags)) off)
 
 flush_notes-apart : (shape : Shape) (tags : Tags) (l k : Line) → l.0 ≢ k.0 → flush_notes shape (after_flush tags l) k ≡ flush_notes shape tags k
 flush_notes-apart shape tags l k apart =
-    each_same shape.holders _ _ (λ h within. ap (λ (state : Option Mesi). back_notes k h state) (state_in-cleaned l k (tags h (set_of shape k)) apart))
+    each_same shape.holders _ _ (λ h within. ap (λ (state : Option Mesi). back_notes k h state) (lookup-cleaned l k (tags h (set_of shape k)) apart))
 
 flushes_notes-apart : (shape : Shape) (tags : Tags) (l : Line) (lines : List Line)
     → ((j : ℕ) (d : Line) → j < length lines → l.0 ≢ (get_or lines j d).0)

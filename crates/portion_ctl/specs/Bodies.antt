@@ -16,7 +16,7 @@ use Rattle.offload_calls.specs.declared.status.CoreStatus.{CoreStatus}
 use Rattle.offload_calls.specs.declared.status.CoreStatus.TheVariants as Core_is
 use Rattle.offload_calls.specs.Calls.{kernel_served, regs_after_kernel_call}
 use Rattle.offload_calls.specs.CoreActs.{status_after_kernel_call, puts_of_kernel_call}
-use Rattle.nda_cache.specs.Tried.{Tried, IsTried, Writes, empty as no_cache}
+use Rattle.nda_cache.specs.Tried.{Tried, IsTried, WritesLine, empty as no_cache}
 use Rattle.bloom_sig.specs.Images.{IsSignatureOf}
 use Rattle.bloom_sig.specs.Signatures.{Sets, empty as no_lines}
 use Rattle.line_memory.specs.Backing.{BackingView, copy_of}
@@ -215,9 +215,9 @@ pub record Keeps (old new : Body) : Type 0 where
   pub locked : new.locked ≡ old.locked
 
 -- what a store leaves of a cache
-pub record Puts (before after : Tried) (addr bytes word : ℕ) : Type 0 where
+pub record PutsInCache (before after : Tried) (addr bytes word : ℕ) : Type 0 where
   pub is : IsTried before
-  pub cache : Writes before after (line_at before.line_bytes addr)
+  pub cache : WritesLine before after (line_at before.line_bytes addr)
       (line_offset addr before.line_bytes) bytes word
 
 -- a plan whose access lies in this memory

@@ -6,7 +6,7 @@ use Rattle.conda_base.specs.Bytes.{value_at, handed_out}
 use Rattle.conda_base.specs.declared.line.Line.{Line}
 use Rattle.write_masks.specs.Marks.{Covers}
 use Rattle.write_masks.specs.declared.masked.Masked.{Masked}
-use Rattle.nda_cache.specs.Looks.{NeedsFill as NeedsFillAt, Looks as LooksAt}
+use Rattle.nda_cache.specs.Looks.{NeedsFill, Looks}
 use Rattle.nda_cache.specs.Tried.{Tried, IsFound, known_of, put_line, filled_from}
 use Rattle.nda_cache.specs.declared.cache.Look.{Look}
 use Rattle.nda_cache.specs.declared.cache.Look.TheVariants.{Known, Missing, Full}
@@ -31,9 +31,9 @@ HasValue cache addr size value =
     value ≡ value_at (line_known cache addr).bytes (line_offset addr cache.line_bytes) size
 
 -- not all bytes were stored, and the line wasn't filled but may be
-abbrev pub NeedsFill : Tried → ℕ → ℕ → Type 0
-NeedsFill cache addr size =
-    NeedsFillAt cache (line_at cache.line_bytes addr) (line_offset addr cache.line_bytes) size
+abbrev pub IsMissing : Tried → ℕ → ℕ → Type 0
+IsMissing cache addr size =
+    NeedsFill cache (line_at cache.line_bytes addr) (line_offset addr cache.line_bytes) size
 
 -- the line of these bytes, and what a search for it has found
 pub record IsSought (cache : Tried) (sought : Sought) : Type 0 where
@@ -41,9 +41,9 @@ pub record IsSought (cache : Tried) (sought : Sought) : Type 0 where
   pub found : IsFound cache sought.l sought.found
 
 -- what a look at a load's bytes tells
-abbrev pub Looks : Tried → ℕ → ℕ → Look → Type 0
-Looks cache addr size look =
-    LooksAt cache (line_at cache.line_bytes addr) (line_offset addr cache.line_bytes) size look
+abbrev pub LooksUp : Tried → ℕ → ℕ → Look → Type 0
+LooksUp cache addr size look =
+    Looks cache (line_at cache.line_bytes addr) (line_offset addr cache.line_bytes) size look
 
 -- the cache with memory's copy of a line
 abbrev pub with_fill : BackingView → Tried → Line → Tried
@@ -60,15 +60,15 @@ end_of_load Full is_full = Some 4
 
 -- What a load does to the cache and the read signature: nothing where the value is known, else a
 -- fill.
-abbrev pub Takes
+abbrev pub TakesValue
     : BackingView → Tried → Sets → Line → ℕ → ℕ → Look → Tried → Sets → ℕ → Type 0
-Takes memory cache reads l addr size (Known known) new_cache new_reads value =
+TakesValue memory cache reads l addr size (Known known) new_cache new_reads value =
     (new_cache ≡ cache) × (new_reads ≡ reads) × (value ≡ known)
-Takes memory cache reads l addr size Missing new_cache new_reads value =
+TakesValue memory cache reads l addr size Missing new_cache new_reads value =
     (new_cache ≡ with_fill memory cache l)
     × (new_reads ≡ inserted reads l)
     × HasValue new_cache addr size value
-Takes memory cache reads l addr size Full new_cache new_reads value = ⊥
+TakesValue memory cache reads l addr size Full new_cache new_reads value = ⊥
 
 -- the notes of a load
 abbrev pub take_notes : ℕ → Line → Look → List Note

@@ -51,7 +51,7 @@ opened_from s locked memory = record {
 
 -- An opening starts a try of no act. Under the lock it flushes every dirty line in walk order,
 -- and no line is foreign; else the dirty lines are.
-pub record Opens
+pub record OpensPortion
     (s : ReadyView) (locked : Bool) (memory new_memory : BackingView) (before after : Trace)
     (o : OpenView) : Type 0 where
   pub opened : o ≡ opened_from s locked memory
@@ -125,9 +125,9 @@ act_notes code p old (Acted_is.Ends ended) = []
 -- ---- the ruling
 
 -- a clash exactly where the read and the foreign sets meet; the try is handed on
-abbrev pub Rules : EndedView → Verdict → Type 0
-Rules s (Verdict_is.Clash clash) = Meet s.try.read_set s.try.foreign_set × (clash ≡ s)
-Rules s (Verdict_is.Clear clear) = (Meet s.try.read_set s.try.foreign_set → ⊥) × (clear ≡ s)
+abbrev pub HasVerdict : EndedView → Verdict → Type 0
+HasVerdict s (Verdict_is.Clash clash) = Meet s.try.read_set s.try.foreign_set × (clash ≡ s)
+HasVerdict s (Verdict_is.Clear clear) = (Meet s.try.read_set s.try.foreign_set → ⊥) × (clear ≡ s)
 
 -- the core keeps what its try came to
 pub record IsKeptOf (s : EndedView) (kept : Kept) : Type 0 where

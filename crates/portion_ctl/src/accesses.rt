@@ -3,11 +3,11 @@ ghost use Rattle.std.specs.Prelude.{◌≡◌, ◌+◌, ◌%◌, ◌≤◌, ◌=
 ghost use Rattle.conda_base.specs.Lines.{IsAccessSize, line_offset};
 ghost use Rattle.conda_base.specs.LineLists.{line_at};
 ghost use Rattle.bloom_sig.specs.Signatures.{inserted, is_full_for, is_member};
-ghost use Rattle.nda_cache.specs.Tried.{HasRoom, IsFound, IsTried, Writes};
+ghost use Rattle.nda_cache.specs.Tried.{HasRoom, IsFound, IsTried, WritesLine};
 ghost use Rattle.line_memory.specs.Notes.{all_noted};
 ghost use Rattle.try_runs.specs.Fills.{corefill_notes};
-ghost use Rattle.portion_ctl.specs.Bodies.{IsAccessIn, Puts};
-ghost use Rattle.portion_ctl.specs.Looks.{HasValue, IsRoom, IsSought, Looks, NeedsFill, Takes, end_of_load, take_notes, with_fill};
+ghost use Rattle.portion_ctl.specs.Bodies.{IsAccessIn, PutsInCache};
+ghost use Rattle.portion_ctl.specs.Looks.{HasValue, IsRoom, IsSought, LooksUp, IsMissing, TakesValue, end_of_load, take_notes, with_fill};
 
 use bloom_sig::Signature;
 use conda_base::Line;
@@ -65,7 +65,7 @@ pub fn fetch<B: Backing>(
 ) -> Taken
     requires access { IsAccessIn (B.shown mem.now) cache.old.line_bytes sought.addr sought.size }
     requires sought { IsSought cache.old sought }
-    requires needed { NeedsFill cache.old sought.addr sought.size }
+    requires needed { IsMissing cache.old sought.addr sought.size }
     ensures cache { cache.new ≡ with_fill (B.shown mem.now) cache.old sought.l }
     ensures value { HasValue cache.new sought.addr sought.size result.value }
     ensures found { IsFound cache.new sought.l result.found }
@@ -98,9 +98,9 @@ pub fn take<B: Backing>(
 ) -> Taken
     requires access { IsAccessIn (B.shown mem.now) cache.old.line_bytes sought.addr sought.size }
     requires sought { IsSought cache.old sought }
-    requires looks { Looks cache.old sought.addr sought.size look }
+    requires looks { LooksUp cache.old sought.addr sought.size look }
     requires room { IsRoom look }
-    ensures takes { Takes (B.shown mem.now) cache.old reads.old sought.l sought.addr sought.size
+    ensures takes { TakesValue (B.shown mem.now) cache.old reads.old sought.l sought.addr sought.size
         look cache.new reads.new result.value }
     ensures found { IsFound cache.new sought.l result.found }
     ensures notes { log.new ≡ all_noted log.old (take_notes core sought.l look) }
@@ -125,7 +125,7 @@ pub fn put(cache: &mut NdaCache, found: Option<usize>, l: Line, addr: u32, size:
     requires line { l ≡ line_at cache.old.line_bytes addr }
     requires room { HasRoom cache.old l }
     requires found { IsFound cache.old l found }
-    ensures { Puts cache.old cache.new addr size value }
+    ensures { PutsInCache cache.old cache.new addr size value }
 {
     cache.write_found(found, addr, size, value);
 }

@@ -174,7 +174,7 @@ impl Ready {
     ghost use Rattle.chip_config.specs.Settings.{settings};
     ghost use Rattle.try_runs.specs.Limits.{IsLimits, limits_of};
     ghost use Rattle.portion_ctl.specs.Stands.{IsOpen, StandsFor};
-    ghost use Rattle.portion_ctl.specs.States.{Opens, opened_from};
+    ghost use Rattle.portion_ctl.specs.States.{OpensPortion, opened_from};
     ghost use Rattle.portion_ctl.specs.Walks.{all_flushed, flushed_lines};
 
     /// A core with all registers and pc 0. All memory for its tries is taken here.
@@ -230,7 +230,7 @@ impl Ready {
     /// Opens a try from the registers. Under the lock every dirty line of memory is flushed, and no
     /// line counts as changed by others; else the dirty lines do.
     pub fn open<B: Backing>(self, locked: bool, mem: &mut B, log: &mut Traffic) -> Open
-        ensures opens { Opens self locked (B.shown mem.old) (B.shown mem.new) log.old log.new
+        ensures opens { OpensPortion self locked (B.shown mem.old) (B.shown mem.new) log.old log.new
             result }
         ensures stands { (code : CodeView) (fills : Fills)
             → StandsFor code result (record { regs = self.regs; fills = fills; acts = 0 }) }
@@ -365,11 +365,11 @@ impl Drop for Open {
 
 impl Ended {
     ghost use Rattle.portion_ctl.specs.Stands.{IsOpen};
-    ghost use Rattle.portion_ctl.specs.States.{Rules};
+    ghost use Rattle.portion_ctl.specs.States.{HasVerdict};
 
     /// Rules on the try. No other call makes a `Clear` or a `Clash`.
     pub fn judge(self) -> Verdict
-        ensures rules { Rules self result }
+        ensures rules { HasVerdict self result }
         ensures kept { IsOpen self.try }
     {
         let Ended { body } = self;

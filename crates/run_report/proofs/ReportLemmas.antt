@@ -6,9 +6,6 @@ use Rattle.std.proofs.Math.Seq.{take-suc}
 use Rattle.std.proofs.lemmas.List.{append-nil}
 use Rattle.std.proofs.lemmas.Grind.{flat_map-append}
 use Rattle.std.proofs.lemmas.Option.{slice_get_cases, slice_get_within, get_or_from_slice_get}
-use Rattle.conda_base.specs.declared.Line.{Line}
-use Rattle.conda_base.specs.declared.Mesi.{Mesi}
-use Rattle.traffic_trace.specs.declared.note.Note.{Note}
 use Rattle.conda_host.specs.declared.outside.Role.TheVariants.{Report}
 use Rattle.streams.specs.Seen.{Seen}
 use Rattle.streams.proofs.PutFacts.{puts_nothing, puts_trans, puts_front, front_and_more}
@@ -21,7 +18,7 @@ use Rattle.std.proofs.lemmas.Grind.{common_steps}
 use Rattle.conda_base.specs.Lines.{IsLineOf}
 use Rattle.conda_base.proofs.LineLemmas.{line_bytes_in_memory, line_size_cases}
 use Rattle.conda_base.specs.Bytes.{handed_out}
-use Rattle.run_report.specs.View.{View, IsShown, IsAddressed, line_of}
+use Rattle.run_report.specs.View.{View, IsShown, line_of}
 use Rattle.run_report.specs.Texts.{changed_line_text, texts_below, register_text, registers_text, hart_line_text, core_line_text, hart_text, core_text, harts_text, cores_text, changed_text, changes_text, text_if_some, tag_text, slot_text, set_text, cache_text, caches_text, note_text, note_at_text, notes_text}
 use Rattle.run_report.specs.Writes.{Wrote, WrotePart}
 
@@ -157,12 +154,6 @@ notes_are v = sym (texts_of_all (note_text v) v.trace.notes (length v.trace.note
 -- what holds of all elements holds of the one at a place
 at_place : {A : Type 0} (P : A → Type 0) (xs : List A) (i : ℕ) (x : A) → All P xs → slice_get xs i ≡ Some x → P x
 at_place P xs i x all is = subst P (get_or_from_slice_get xs i x x is) (all i x (slice_get_within xs i x is))
-
-pub slot_addressed : (v : View) → IsShown v → (i set way : ℕ) (tag : Line × Mesi) → slice_get (v.tags i set) way ≡ Some tag → IsAddressed v.line_bytes tag.0
-slot_addressed v kept i set way tag is = at_place (λ tag. IsAddressed v.line_bytes tag.0) (v.tags i set) way tag (kept.held i set) is
-
-pub note_addressed : (v : View) → IsShown v → (place : ℕ) (note : Note) → slice_get v.trace.notes place ≡ Some note → IsAddressed v.line_bytes note.line
-note_addressed v kept place note is = at_place (λ note. IsAddressed v.line_bytes note.line) v.trace.notes place note kept.noted is
 
 -- a hart and a core: the line, and then the registers
 pub hart_pieces : (v : View) (i : ℕ) (regs : Regs) (status : HartStatus) (line : List ℕ) → regs ≡ (v.hart i).regs → status ≡ (v.hart i).status → line ≡ hart_line_text i status regs.pc → hart_text v i ≡ line ++ registers_text regs.x

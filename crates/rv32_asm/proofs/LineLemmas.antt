@@ -3,6 +3,7 @@ use Rattle.std.proofs.Common.{◌≡◌, ℕ, ◌&&◌, Bool, true, false, List,
 use Rattle.std.specs.Prelude.{Option, Some, not, codes, if◌then◌else◌}
 use Rattle.std.specs.Str.{bytes_eq}
 use Rattle.std.proofs.lemmas.Slice.Eq.{bytes_eq-Decides}
+use Rattle.conda_base.specs.Digits.{is_numeral}
 use Rattle.rv32_dis.specs.declared.mnemonic.Mnemonic.{Mnemonic}
 use Rattle.rv32_dis.specs.declared.naming.TheConstants.{MNEMONICS}
 use Rattle.rv32_dis.specs.Mnemonics.{mnemonic_of, name_of}
@@ -10,7 +11,7 @@ use Rattle.rv32_dis.specs.Naming.{mnemonic_in}
 use Rattle.rv32_dis.specs.Texts.{operands}
 use Rattle.rv32_dis.proofs.NamingLemmas.{named_in_has, mnemonic_in_name}
 use Rattle.rv32_dis.proofs.EveryLemmas.{every_mnemonic}
-use Rattle.rv32_asm.specs.Grammar.{is_amount, is_numeral, is_hex_word, Said, At, Word, Does, IsSaid, said_pieces}
+use Rattle.rv32_asm.specs.Grammar.{is_amount, is_hex_word, Said, At, Word, Does, IsSaid, said_pieces}
 use Rattle.rv32_asm.specs.Reading.{Pieces, only_piece, operands_in, instr_in, at_in, word_in, said_by, is_label}
 use Rattle.rv32_asm.proofs.RegisterLemmas.{bound, held, and_true, only_piece_is}
 use Rattle.rv32_asm.proofs.OperandLemmas.{operands_in_is, operands_again}

@@ -7,8 +7,8 @@ use Rattle.std.proofs.lemmas.Fmt.{decimal_digit, digits_decimal, digits_value-de
 use Rattle.std.proofs.lemmas.Str.Parse.{IsDigitsTest, FoldsDigits, IsNumeralModel, numerals_by_fold}
 use Rattle.std.proofs.lemmas.Bool.Decides.{nat_tests}
 use Rattle.rv32_dis.specs.Texts.{signed}
-use Rattle.conda_base.specs.Digits.{number_after, is_digit}
-use Rattle.rv32_asm.specs.Grammar.{is_numeral, is_number}
+use Rattle.conda_base.specs.Digits.{number_after, is_digit, is_numeral}
+use Rattle.rv32_asm.specs.Grammar.{is_number}
 use Rattle.rv32_asm.specs.Assembled.{number_in, complement}
 
 abbrev AreDigits : List ℕ → Type 0

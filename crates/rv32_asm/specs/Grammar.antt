@@ -1,7 +1,7 @@
 -- The form of a line.
 use Rattle.std.specs.Prelude.{ℕ, ◌≡◌, ◌==◌, ◌&&◌, ◌||◌, not, Bool, false, IsTrue, List, [], ◌∷◌, ◌++◌, length, slice_index, codes, Option, Some, None, if◌then◌else◌, nat_le, nat_lt, IfSome}
 use Rattle.std.specs.List.{list_all}
-use Rattle.conda_base.specs.Digits.{is_digit}
+use Rattle.conda_base.specs.Digits.{is_digit, is_numeral}
 use Rattle.rv32_decode.specs.declared.instr.Instr.{Instr}
 use Rattle.rv32_decode.specs.declared.instr.Instr.TheVariants.{Lui, Auipc, Jal, Jalr, Branch, Load, Store, Imm, Reg, Amo, Fence, Ecall, Ebreak}
 use Rattle.rv32_decode.specs.Ranges.{FieldsFit}
@@ -19,10 +19,6 @@ is_name_byte byte = is_letter byte || is_digit byte || byte == 95
 abbrev pub is_name : List ℕ → Bool
 is_name name =
     nat_le 1 (length name) && nat_le (length name) LONGEST_NAME && list_all is_name_byte name && not (is_digit (slice_index name 0))
-
--- one or more digits, of which the first isn't 0 where there are more
-abbrev pub is_numeral : List ℕ → Bool
-is_numeral text = nat_le 1 (length text) && list_all is_digit text && (length text == 1 || not (slice_index text 0 == 48))
 
 -- a numeral, or `-` and a numeral other than 0
 abbrev pub is_number : List ℕ → Bool

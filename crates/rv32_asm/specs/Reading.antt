@@ -9,8 +9,8 @@ use Rattle.rv32_dis.specs.declared.mnemonic.Mnemonic.{Mnemonic}
 use Rattle.rv32_dis.specs.declared.mnemonic.Mnemonic.TheVariants as Is
 use Rattle.rv32_dis.specs.Naming.{mnemonic_in}
 use Rattle.rv32_asm.specs.Pieces.{pieces, without_comment}
-use Rattle.conda_base.specs.Digits.{is_digit}
-use Rattle.rv32_asm.specs.Grammar.{is_name, is_numeral, is_hex_word, is_amount, Said, At, Word, Does, LineSaid}
+use Rattle.conda_base.specs.Digits.{is_digit, is_numeral}
+use Rattle.rv32_asm.specs.Grammar.{is_name, is_hex_word, is_amount, Said, At, Word, Does, LineSaid}
 
 infixl 10 ◌>>=◌
 abbrev pub ◌>>=◌ : {A B : Type 0} → Option A → (A → Option B) → Option B
@@ -165,6 +165,6 @@ abbrev pub line_in : List ℕ → Option LineSaid
 line_in line = if list_all (λ byte. nat_lt byte 128) line then pieces_in (pieces (without_comment line)) else None
 
 -- what a function returned, seen by `view`, is what reading gives
-abbrev pub Gives : {X Y : Type 0} → (X → Y) → Option X → Option Y → Type 0
-Gives view None read = read ≡ None
-Gives view (Some x) read = read ≡ Some (view x)
+abbrev pub Returns : {X Y : Type 0} → (X → Y) → Option X → Option Y → Type 0
+Returns view None read = read ≡ None
+Returns view (Some x) read = read ≡ Some (view x)

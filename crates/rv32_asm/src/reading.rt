@@ -3,12 +3,10 @@ ghost use Rattle.std.specs.Prelude.{◌≡◌, ◌∷◌, [], length, ◌==◌, 
 ghost use Rattle.std.specs.List.{list_all};
 ghost use Rattle.std.specs.Str.{bytes_eq};
 ghost use Rattle.rv32_asm.specs.Pieces.{pieces};
-ghost use Rattle.conda_base.specs.Digits.{is_digit};
 ghost use Rattle.rv32_asm.specs.Grammar.{
   is_letter,
   is_name_byte,
   is_name,
-  is_numeral,
   is_number,
   is_hex_digit,
   is_hex_word,
@@ -40,14 +38,14 @@ ghost use Rattle.rv32_asm.specs.Reading.{
   atomic_in,
   registers_in,
   operands_in,
-  Gives,
+  Returns,
 };
 ghost use Rattle.rv32_dis.specs.declared.mnemonic.Mnemonic.TheVariants as Is;
 
 use crate::cutting::{take_piece, without_comment};
 use crate::limits::LONGEST_NAME;
 use crate::statement::{SourceLine, Statement};
-use conda_base::is_decimal;
+use conda_base::{is_decimal, is_numeral};
 use rv32_decode::{AmoOp, BranchOp, ImmOp, Instr, LoadOp, RegOp, StoreOp};
 use rv32_dis::{Mnemonic, named};
 
@@ -66,12 +64,6 @@ fn are_name_bytes(text: &[u8]) -> bool
     text.iter().all(|byte| is_name_byte(*byte))
 }
 
-fn are_digits(text: &[u8]) -> bool
-    ensures { result ≡ list_all is_digit text.now }
-{
-    text.iter().all(|byte| is_decimal(*byte))
-}
-
 fn are_hex_digits(text: &[u8]) -> bool
     ensures { result ≡ list_all is_hex_digit text.now }
 {
@@ -82,12 +74,6 @@ pub(crate) fn is_name(text: &[u8]) -> bool
     ensures { result ≡ is_name text.now }
 {
     !text.is_empty() && text.len() <= LONGEST_NAME && are_name_bytes(text) && !is_decimal(text[0])
-}
-
-fn is_numeral(text: &[u8]) -> bool
-    ensures { result ≡ is_numeral text.now }
-{
-    !text.is_empty() && are_digits(text) && (text.len() == 1 || text[0] != b'0')
 }
 
 fn is_number(text: &[u8]) -> bool
@@ -154,7 +140,7 @@ fn read_register(text: &[u8]) -> Option<u8>
 
 #[tactic(auto, unfolding(crate::specs::Reading::take_register))]
 fn take_register(text: &[u8]) -> Option<(u8, &[u8])>
-    ensures { Gives (λ x. (x.0, pieces x.1.now)) result (take_register (pieces text.now)) }
+    ensures { Returns (λ x. (x.0, pieces x.1.now)) result (take_register (pieces text.now)) }
 {
     let (piece, rest) = take_piece(text)?;
     let register = read_register(piece)?;
@@ -163,7 +149,7 @@ fn take_register(text: &[u8]) -> Option<(u8, &[u8])>
 
 #[tactic(auto, unfolding(crate::specs::Reading::take_mark))]
 fn take_mark(mark: u8, text: &[u8]) -> Option<&[u8]>
-    ensures { Gives (λ x. pieces x.now) result (take_mark mark (pieces text.now)) }
+    ensures { Returns (λ x. pieces x.now) result (take_mark mark (pieces text.now)) }
 {
     let (piece, rest) = take_piece(text)?;
     if piece == [mark].as_slice() {
@@ -181,7 +167,7 @@ fn is_end(text: &[u8]) -> bool
 
 #[tactic(auto, unfolding(crate::specs::Reading::only_piece))]
 fn only_piece(text: &[u8]) -> Option<&[u8]>
-    ensures { Gives (λ x. x.now) result (only_piece (pieces text.now)) }
+    ensures { Returns (λ x. x.now) result (only_piece (pieces text.now)) }
 {
     let (piece, rest) = take_piece(text)?;
     if is_end(rest) { Some(piece) } else { None }
@@ -189,7 +175,7 @@ fn only_piece(text: &[u8]) -> Option<&[u8]>
 
 #[tactic(auto, unfolding(crate::specs::Reading::take_first))]
 fn take_first(text: &[u8]) -> Option<(u8, &[u8])>
-    ensures { Gives (λ x. (x.0, pieces x.1.now)) result (take_first (pieces text.now)) }
+    ensures { Returns (λ x. (x.0, pieces x.1.now)) result (take_first (pieces text.now)) }
 {
     let (register, rest) = take_register(text)?;
     let rest = take_mark(b',', rest)?;
@@ -208,7 +194,7 @@ fn read_base(text: &[u8]) -> Option<u8>
 
 #[tactic(auto, unfolding(crate::specs::Reading::pair_in))]
 fn read_pair(text: &[u8]) -> Option<(u8, &[u8])>
-    ensures { Gives (λ x. (x.0, x.1.now)) result (pair_in (pieces text.now)) }
+    ensures { Returns (λ x. (x.0, x.1.now)) result (pair_in (pieces text.now)) }
 {
     let (r, rest) = take_first(text)?;
     let number = only_piece(rest)?;
@@ -217,7 +203,7 @@ fn read_pair(text: &[u8]) -> Option<(u8, &[u8])>
 
 #[tactic(auto, unfolding(crate::specs::Reading::triple_in))]
 fn read_triple(text: &[u8]) -> Option<(u8, u8, &[u8])>
-    ensures { Gives (λ x. (x.0, x.1, x.2.now)) result (triple_in (pieces text.now)) }
+    ensures { Returns (λ x. (x.0, x.1, x.2.now)) result (triple_in (pieces text.now)) }
 {
     let (r, rest) = take_first(text)?;
     let (s, rest) = take_first(rest)?;
@@ -227,7 +213,7 @@ fn read_triple(text: &[u8]) -> Option<(u8, u8, &[u8])>
 
 #[tactic(auto, unfolding(crate::specs::Reading::addressed_in))]
 fn read_addressed(text: &[u8]) -> Option<(u8, &[u8], u8)>
-    ensures { Gives (λ x. (x.0, x.1.now, x.2)) result (addressed_in (pieces text.now)) }
+    ensures { Returns (λ x. (x.0, x.1.now, x.2)) result (addressed_in (pieces text.now)) }
 {
     let (r, rest) = take_first(text)?;
     let (number, rest) = take_piece(rest)?;
@@ -256,7 +242,7 @@ fn read_registers(text: &[u8]) -> Option<(u8, u8, u8)>
 
 #[tactic(auto, unfolding(crate::specs::Reading::operands_in))]
 fn read_branch(op: BranchOp, text: &[u8]) -> Option<(Instr, &[u8])>
-    ensures { Gives (λ x. (x.0, x.1.now)) result (operands_in (Is.Branch op) (pieces text.now)) }
+    ensures { Returns (λ x. (x.0, x.1.now)) result (operands_in (Is.Branch op) (pieces text.now)) }
 {
     let (rs1, rs2, number) = read_triple(text)?;
     Some((
@@ -272,7 +258,7 @@ fn read_branch(op: BranchOp, text: &[u8]) -> Option<(Instr, &[u8])>
 
 #[tactic(auto, unfolding(crate::specs::Reading::operands_in))]
 fn read_load(op: LoadOp, text: &[u8]) -> Option<(Instr, &[u8])>
-    ensures { Gives (λ x. (x.0, x.1.now)) result (operands_in (Is.Load op) (pieces text.now)) }
+    ensures { Returns (λ x. (x.0, x.1.now)) result (operands_in (Is.Load op) (pieces text.now)) }
 {
     let (rd, number, rs1) = read_addressed(text)?;
     Some((
@@ -288,7 +274,7 @@ fn read_load(op: LoadOp, text: &[u8]) -> Option<(Instr, &[u8])>
 
 #[tactic(auto, unfolding(crate::specs::Reading::operands_in))]
 fn read_store(op: StoreOp, text: &[u8]) -> Option<(Instr, &[u8])>
-    ensures { Gives (λ x. (x.0, x.1.now)) result (operands_in (Is.Store op) (pieces text.now)) }
+    ensures { Returns (λ x. (x.0, x.1.now)) result (operands_in (Is.Store op) (pieces text.now)) }
 {
     let (rs2, number, rs1) = read_addressed(text)?;
     Some((
@@ -304,7 +290,7 @@ fn read_store(op: StoreOp, text: &[u8]) -> Option<(Instr, &[u8])>
 
 #[tactic(auto, unfolding(crate::specs::Reading::operands_in))]
 fn read_imm(op: ImmOp, text: &[u8]) -> Option<(Instr, &[u8])>
-    ensures { Gives (λ x. (x.0, x.1.now)) result (operands_in (Is.Imm op) (pieces text.now)) }
+    ensures { Returns (λ x. (x.0, x.1.now)) result (operands_in (Is.Imm op) (pieces text.now)) }
 {
     let (rd, rs1, number) = read_triple(text)?;
     Some((
@@ -320,7 +306,7 @@ fn read_imm(op: ImmOp, text: &[u8]) -> Option<(Instr, &[u8])>
 
 #[tactic(auto, unfolding(crate::specs::Reading::operands_in))]
 fn read_reg(op: RegOp, text: &[u8]) -> Option<(Instr, &[u8])>
-    ensures { Gives (λ x. (x.0, x.1.now)) result (operands_in (Is.Reg op) (pieces text.now)) }
+    ensures { Returns (λ x. (x.0, x.1.now)) result (operands_in (Is.Reg op) (pieces text.now)) }
 {
     let (rd, rs1, rs2) = read_registers(text)?;
     Some((Instr::Reg { op, rd, rs1, rs2 }, b""))
@@ -328,7 +314,7 @@ fn read_reg(op: RegOp, text: &[u8]) -> Option<(Instr, &[u8])>
 
 #[tactic(auto, unfolding(crate::specs::Reading::operands_in))]
 fn read_amo(op: AmoOp, aq: bool, rl: bool, text: &[u8]) -> Option<(Instr, &[u8])>
-    ensures { Gives (λ x. (x.0, x.1.now)) result (operands_in (Is.Amo op aq rl) (pieces text.now)) }
+    ensures { Returns (λ x. (x.0, x.1.now)) result (operands_in (Is.Amo op aq rl) (pieces text.now)) }
 {
     let (rd, rs2, rs1) = read_atomic(text)?;
     Some((
@@ -346,7 +332,7 @@ fn read_amo(op: AmoOp, aq: bool, rl: bool, text: &[u8]) -> Option<(Instr, &[u8])
 
 #[tactic(auto, unfolding(crate::specs::Reading::operands_in))]
 fn read_operands(m: Mnemonic, text: &[u8]) -> Option<(Instr, &[u8])>
-    ensures { Gives (λ x. (x.0, x.1.now)) result (operands_in m (pieces text.now)) }
+    ensures { Returns (λ x. (x.0, x.1.now)) result (operands_in m (pieces text.now)) }
 {
     match m {
         Mnemonic::Lui => {
@@ -380,7 +366,7 @@ fn read_operands(m: Mnemonic, text: &[u8]) -> Option<(Instr, &[u8])>
 
 #[tactic(auto, unfolding(crate::specs::Reading::instr_in))]
 fn read_instr(m: Mnemonic, text: &[u8]) -> Option<Statement<'_>>
-    ensures { Gives said_view result (instr_in m (pieces text.now)) }
+    ensures { Returns said_view result (instr_in m (pieces text.now)) }
 {
     let (i, number) = read_operands(m, text)?;
     if is_amount(i, number) {
@@ -392,7 +378,7 @@ fn read_instr(m: Mnemonic, text: &[u8]) -> Option<Statement<'_>>
 
 #[tactic(auto, unfolding(crate::specs::Reading::at_in))]
 fn read_at(text: &[u8]) -> Option<Statement<'_>>
-    ensures { Gives said_view result (at_in (pieces text.now)) }
+    ensures { Returns said_view result (at_in (pieces text.now)) }
 {
     let number = only_piece(text)?;
     if is_numeral(number) {
@@ -404,7 +390,7 @@ fn read_at(text: &[u8]) -> Option<Statement<'_>>
 
 #[tactic(auto, unfolding(crate::specs::Reading::word_in))]
 fn read_word(text: &[u8]) -> Option<Statement<'_>>
-    ensures { Gives said_view result (word_in (pieces text.now)) }
+    ensures { Returns said_view result (word_in (pieces text.now)) }
 {
     let word = only_piece(text)?;
     if word.len() < 2 {
@@ -420,7 +406,7 @@ fn read_word(text: &[u8]) -> Option<Statement<'_>>
 
 #[tactic(auto, unfolding(crate::specs::Reading::said_by))]
 fn read_said<'a>(first: &[u8], rest: &'a [u8]) -> Option<Statement<'a>>
-    ensures { Gives said_view result (said_by first.now (pieces rest.now)) }
+    ensures { Returns said_view result (said_by first.now (pieces rest.now)) }
 {
     if first == b".at".as_slice() {
         return read_at(rest);
@@ -442,7 +428,7 @@ fn is_label(piece: &[u8]) -> bool
 // Nothing, or a statement.
 #[tactic(auto, unfolding(crate::specs::Reading::statement_in))]
 fn read_statement(text: &[u8]) -> Option<Option<Statement<'_>>>
-    ensures { Gives (λ x. option_map said_view x) result (statement_in (pieces text.now)) }
+    ensures { Returns (λ x. option_map said_view x) result (statement_in (pieces text.now)) }
 {
     match take_piece(text) {
         None => Some(None),
@@ -454,7 +440,7 @@ fn read_statement(text: &[u8]) -> Option<Option<Statement<'_>>>
 }
 
 fn read_labeled<'a>(label: Option<&'a [u8]>, text: &'a [u8]) -> Option<SourceLine<'a>>
-    ensures { Gives line_view result
+    ensures { Returns line_view result
         (labeled (option_map name_view label.entry) (pieces text.now)) }
 {
     let statement = read_statement(text)?;
@@ -463,7 +449,7 @@ fn read_labeled<'a>(label: Option<&'a [u8]>, text: &'a [u8]) -> Option<SourceLin
 
 #[tactic(auto, unfolding(crate::specs::Reading::pieces_in))]
 fn read_pieces(text: &[u8]) -> Option<SourceLine<'_>>
-    ensures { Gives line_view result (pieces_in (pieces text.now)) }
+    ensures { Returns line_view result (pieces_in (pieces text.now)) }
 {
     match take_piece(text) {
         None => Some(SourceLine {

@@ -12,10 +12,6 @@ use Rattle.schedule_log.specs.Findings.{Finding, Asks, found_then, found_from, P
 use Rattle.schedule_log.specs.Steps.{after_line, after_byte, said_at, asked_by}
 use Rattle.schedule_log.proofs.ScheduleLemmas.{ended_lines_at, last_part_at, ended_lines_none, last_part_none}
 
--- nothing read leaves a reader as it is
-pub feeds_nothing : (s : Progress) → Feeds s [] [] s
-feeds_nothing s = record { whole = λ more rest. refl }
-
 -- two pieces, one after another, are read as one
 pub feeds_join : (s t u : Progress) (a b : List ℕ) (f g : List Finding) → Feeds s a f t → Feeds t b g u → Feeds s (a ++ b) (f ++ g) u
 feeds_join s t u a b f g first second = record {

@@ -1,11 +1,9 @@
 // One line of a schedule.
 ghost use Rattle.std.specs.Prelude.{◌≡◌, ◌≤◌, IsTrue, length};
-ghost use Rattle.std.specs.List.{list_all};
-ghost use Rattle.conda_base.specs.Digits.{is_digit};
 ghost use Rattle.schedule_log.specs.Grammar.{actor_of, has_form, is_kind, is_on_chip, reading, without_return, worded};
 
 use crate::count::read_count;
-use conda_base::{Actor, is_decimal};
+use conda_base::{Actor, are_digits, is_decimal};
 
 /// The most bytes of a line that may still be a good one.
 const MAX_LINE: usize = 32;
@@ -50,12 +48,6 @@ fn is_letter(byte: u8) -> bool
     ensures { result ≡ is_kind byte }
 {
     byte == b'h' || byte == b'n'
-}
-
-fn are_digits(text: &[u8]) -> bool
-    ensures { result ≡ list_all is_digit text.now }
-{
-    text.iter().all(|byte| is_decimal(*byte))
 }
 
 fn is_worded(text: &[u8]) -> bool

@@ -64,6 +64,3 @@ pub code_parts : (begin drawn end : List Instr)
     → map encoded (begin ++ drawn ++ end) ≡ map encoded begin ++ map encoded drawn ++ map encoded end
 code_parts begin drawn end =
     map-append encoded (begin ++ drawn) end ∙ ap (λ xs. xs ++ map encoded end) (map-append encoded begin drawn)
-
-pub code_append : (drawn end : List Instr) → map encoded (drawn ++ end) ≡ map encoded drawn ++ map encoded end
-code_append drawn end = map-append encoded drawn end

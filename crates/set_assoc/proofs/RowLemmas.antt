@@ -8,7 +8,7 @@ use Rattle.std.proofs.lemmas.List.FromFn.{length-map-range_with_len, get_or-map-
 use Rattle.std.proofs.lemmas.List.Edits.{get_or-remove_below, get_or-remove_above, length-remove}
 use Rattle.std.proofs.lemmas.Bool.{cases_eq, cases_lt, cases_Bool, eq-eqb, ne_eqb, eqb-true, lt-ltb}
 use Rattle.conda_base.specs.declared.Line.{Line}
-use Rattle.set_assoc.specs.Ages.{place_of_age, AreAges, IsRaised, IsLowered, entry_at, lines_by_age, AreApart, IsRow, IsPlaceOf, IsNowhere}
+use Rattle.set_assoc.specs.Ages.{place_of_age, AreAges, IsRaised, IsLowered, entry_at, lines_by_age, StandOnce, IsAgedRow, IsPlaceOf, IsNowhere}
 use Rattle.set_assoc.specs.Places.{place_of, ArePlaces}
 use Rattle.set_assoc.specs.declared.placed.Placed.{Placed}
 use Rattle.set_assoc.specs.Entries.{lookup, without, replaced, touched, StandsAt}
@@ -40,28 +40,28 @@ module _ {T : Type 0} where
       cc
   absent_at a (entry ∷ rest) (suc i) d absent within same = absent_at a rest i d (absent_parts a entry rest absent).1 (omega arith) same
 
-  apart_at : (entries : List (Line × T)) (k i : ℕ) (d : Line × T) → AreApart entries → k < i → i < length entries → (get_or entries k d).0.0 ≡ (get_or entries i d).0.0 → ⊥
+  apart_at : (entries : List (Line × T)) (k i : ℕ) (d : Line × T) → StandOnce entries → k < i → i < length entries → (get_or entries k d).0.0 ≡ (get_or entries i d).0.0 → ⊥
   apart_at [] k i d are before within same = absurd (omega arith)
   apart_at (entry ∷ rest) k zero d are before within same = absurd (omega arith)
   apart_at (entry ∷ rest) zero (suc i) d are before within same = absent_at entry.0 rest i d are.0 (omega arith) (sym same)
   apart_at (entry ∷ rest) (suc k) (suc i) d are before within same = apart_at rest k i d are.1 (omega arith) (omega arith) same
 
   -- a line at a place of a list without doubles
-  pub stands_apart : (line : Line) (entries : List (Line × T)) (i : ℕ) → AreApart entries → i < length entries → ((d : Line × T) → (get_or entries i d).0.0 ≡ line.0) → StandsAt line entries i
+  pub stands_apart : (line : Line) (entries : List (Line × T)) (i : ℕ) → StandOnce entries → i < length entries → ((d : Line × T) → (get_or entries i d).0.0 ≡ line.0) → StandsAt line entries i
   stands_apart line entries i are within here =
       stands_at line entries i within
       (λ d. eq-eqb (get_or entries i d).0.0 line.0 (here d))
       (λ k d before. ne_eqb (get_or entries k d).0.0 line.0 (λ same. apart_at entries k i d are before within (same ∙ sym (here d))))
 
   -- each change keeps lines apart
-  pub AreApart-without : (line : Line) (entries : List (Line × T)) → AreApart entries → AreApart (without line entries)
+  pub AreApart-without : (line : Line) (entries : List (Line × T)) → StandOnce entries → StandOnce (without line entries)
   AreApart-without line [] are = tt
   AreApart-without line (entry ∷ rest) are =
       ⊎_elim (λ yes. rw yes are.1)
       (λ no. rw no (lookup-without_absent entry.0 line rest are.0, AreApart-without line rest are.1))
       (cases_Bool (eqb entry.0.0 line.0))
 
-  pub lookup-without_apart : (line : Line) (entries : List (Line × T)) → AreApart entries → lookup line (without line entries) ≡ None
+  pub lookup-without_apart : (line : Line) (entries : List (Line × T)) → StandOnce entries → lookup line (without line entries) ≡ None
   lookup-without_apart line [] are = refl
   lookup-without_apart line (entry ∷ rest) are =
       ⊎_elim
@@ -69,7 +69,7 @@ module _ {T : Type 0} where
       (λ no. rw no (rw no (lookup-without_apart line rest are.1)))
       (cases_Bool (eqb entry.0.0 line.0))
 
-  pub AreApart-replaced : (line : Line) (value : T) (entries : List (Line × T)) → AreApart entries → AreApart (replaced line value entries)
+  pub AreApart-replaced : (line : Line) (value : T) (entries : List (Line × T)) → StandOnce entries → StandOnce (replaced line value entries)
   AreApart-replaced line value [] are = tt
   AreApart-replaced line value (entry ∷ rest) are =
       ⊎_elim
@@ -79,14 +79,14 @@ module _ {T : Type 0} where
       (λ no. rw no (lookup-replaced_absent entry.0 line value rest are.0, AreApart-replaced line value rest are.1))
       (cases_Bool (eqb entry.0.0 line.0))
 
-  pub AreApart-take : (m : ℕ) (entries : List (Line × T)) → AreApart entries → AreApart (take m entries)
+  pub AreApart-take : (m : ℕ) (entries : List (Line × T)) → StandOnce entries → StandOnce (take m entries)
   AreApart-take zero entries are = tt
   AreApart-take (suc m) [] are = tt
   AreApart-take (suc m) (entry ∷ rest) are = (lookup-take_absent entry.0 m rest are.0, AreApart-take m rest are.1)
 
-  pub AreApart-touched : (line : Line) (entries : List (Line × T)) → AreApart entries → AreApart (touched line entries)
+  pub AreApart-touched : (line : Line) (entries : List (Line × T)) → StandOnce entries → StandOnce (touched line entries)
   AreApart-touched line entries are =
-      elim (lookup line entries) as (λ o. AreApart (elim o as (λ x. List (Line × T)) [ None ↦ entries | Some value ↦ (line, value) ∷ without line entries ])) [
+      elim (lookup line entries) as (λ o. StandOnce (elim o as (λ x. List (Line × T)) [ None ↦ entries | Some value ↦ (line, value) ∷ without line entries ])) [
         | None ↦ are
         | Some value ↦ (lookup-without_apart line entries are, AreApart-without line entries are)
       ]
@@ -123,7 +123,7 @@ module _ {T : Type 0} where
       get_or-map-range_with_len (λ age. entry_at entries d (place age)) 0 used k k x small (omega arith)
 
   -- a place in use stands in the list, at its age
-  pub stands_in_lines : (entries : List (Line × T)) (ages : List ℕ) (used : ℕ) (line : Line) (p : ℕ) → IsRow entries ages used → IsPlaceOf entries ages used line p → StandsAt line (lines_by_age entries ages used) (get_or ages p 0)
+  pub stands_in_lines : (entries : List (Line × T)) (ages : List ℕ) (used : ℕ) (line : Line) (p : ℕ) → IsAgedRow entries ages used → IsPlaceOf entries ages used line p → StandsAt line (lines_by_age entries ages used) (get_or ages p 0)
   stands_in_lines [] ages used line p is at = absurd (omega (arith, at.within))
   stands_in_lines (first ∷ rest) ages used line p is at =
       let entries : List (Line × T) = first ∷ rest in
@@ -134,7 +134,7 @@ module _ {T : Type 0} where
       (λ d. ap (λ e. e.0.0) (line_at (first ∷ rest) first d ages used a (place_of_age ages) is.filled is.aged at.young) ∙
       ap (λ q. (get_or (first ∷ rest) q first).0.0) back ∙ at.has first)
 
-  pub lookup_in_lines : (entries : List (Line × T)) (d : Line × T) (ages : List ℕ) (used : ℕ) (line : Line) (p : ℕ) → IsRow entries ages used → IsPlaceOf entries ages used line p → lookup line (lines_by_age entries ages used) ≡ Some (record { value = (get_or entries p d).1; place = p })
+  pub lookup_in_lines : (entries : List (Line × T)) (d : Line × T) (ages : List ℕ) (used : ℕ) (line : Line) (p : ℕ) → IsAgedRow entries ages used → IsPlaceOf entries ages used line p → lookup line (lines_by_age entries ages used) ≡ Some (record { value = (get_or entries p d).1; place = p })
   lookup_in_lines entries d ages used line p is at =
       let a : ℕ = get_or ages p 0 in
       let x : Line × Placed T = entry_at entries d p in
@@ -143,7 +143,7 @@ module _ {T : Type 0} where
       ap (λ e. Some e.1) (line_at entries d x ages used a (place_of_age ages) is.filled is.aged at.young) ∙
       ap (λ q. Some (record { value = (get_or entries q d).1; place = q })) back
 
-  pub absent_in_lines : (entries : List (Line × T)) (ages : List ℕ) (used : ℕ) (line : Line) → IsRow entries ages used → IsNowhere entries ages used line → lookup line (lines_by_age entries ages used) ≡ None
+  pub absent_in_lines : (entries : List (Line × T)) (ages : List ℕ) (used : ℕ) (line : Line) → IsAgedRow entries ages used → IsNowhere entries ages used line → lookup line (lines_by_age entries ages used) ≡ None
   absent_in_lines [] ages used line is nowhere = refl
   absent_in_lines (first ∷ rest) ages used line is nowhere =
       (is_absent line (lines_by_age (first ∷ rest) ages used)
@@ -166,7 +166,7 @@ module _ {T : Type 0} where
   back_at x xs k i d inside after = get_or-remove_above xs i d k after inside ∙ ap (λ n. get_or xs n d) (add-one k)
 
 module _ {T : Type 0} where
-  raised_lines : (entries : List (Line × T)) (d : Line × T) (ages new : List ℕ) (used p : ℕ) → IsRow entries ages used → p < length entries → get_or ages p 0 < used → IsRaised ages p new → lines_by_age entries new used ≡ entry_at entries d p ∷ remove (lines_by_age entries ages used) (get_or ages p 0)
+  raised_lines : (entries : List (Line × T)) (d : Line × T) (ages new : List ℕ) (used p : ℕ) → IsAgedRow entries ages used → p < length entries → get_or ages p 0 < used → IsRaised ages p new → lines_by_age entries new used ≡ entry_at entries d p ∷ remove (lines_by_age entries ages used) (get_or ages p 0)
   raised_lines entries d ages new used p is within young raised =
       let a : ℕ = get_or ages p 0 in
       let old : List (Line × Placed T) = lines_by_age entries ages used in
@@ -200,7 +200,7 @@ module _ {T : Type 0} where
   line_of_entry : (entries : List (Line × T)) (d : Line × T) (line : Line) (p : ℕ) → (get_or entries p d).0.0 ≡ line.0 → entry_at entries d p ≡ (line, record { value = (get_or entries p d).1; place = p })
   line_of_entry entries d line p same = ap (λ l. (l, record { value = (get_or entries p d).1; place = p })) (line_by_number _ line same)
 
-  pub touched_lines : (entries : List (Line × T)) (ages new : List ℕ) (used : ℕ) (line : Line) (p : ℕ) → IsRow entries ages used → IsPlaceOf entries ages used line p → IsRaised ages p new → lines_by_age entries new used ≡ touched line (lines_by_age entries ages used)
+  pub touched_lines : (entries : List (Line × T)) (ages new : List ℕ) (used : ℕ) (line : Line) (p : ℕ) → IsAgedRow entries ages used → IsPlaceOf entries ages used line p → IsRaised ages p new → lines_by_age entries new used ≡ touched line (lines_by_age entries ages used)
   touched_lines [] ages new used line p is at raised = absurd (omega (arith, at.within))
   touched_lines (d ∷ rest) ages new used line p is at raised =
       let value : Placed T = record { value = (get_or (d ∷ rest) p d).1; place = p } in
@@ -209,7 +209,7 @@ module _ {T : Type 0} where
       ap (λ es. (line, value) ∷ es) (sym (stands_in_lines (d ∷ rest) ages used line p is at).removed) ∙
       sym (touched_is line value (lines_by_age (d ∷ rest) ages used) (lookup_in_lines (d ∷ rest) d ages used line p is at))
 
-  pub IsRow-touched : (entries : List (Line × T)) (ages new : List ℕ) (used : ℕ) (line : Line) (p : ℕ) → IsRow entries ages used → IsPlaceOf entries ages used line p → IsRaised ages p new → IsRow entries new used
+  pub IsRow-touched : (entries : List (Line × T)) (ages new : List ℕ) (used : ℕ) (line : Line) (p : ℕ) → IsAgedRow entries ages used → IsPlaceOf entries ages used line p → IsRaised ages p new → IsAgedRow entries new used
   IsRow-touched entries ages new used line p is at raised = record {
     few = is.few;
     eight = raised.len ∙ is.eight;
@@ -219,7 +219,7 @@ module _ {T : Type 0} where
   }
 
   -- a line that leaves
-  pub removed_lines : (entries : List (Line × T)) (ages new : List ℕ) (used : ℕ) (line : Line) (p : ℕ) → IsRow entries ages used → IsPlaceOf entries ages used line p → IsLowered ages p (length entries) new → lines_by_age entries new (used - 1) ≡ without line (lines_by_age entries ages used)
+  pub removed_lines : (entries : List (Line × T)) (ages new : List ℕ) (used : ℕ) (line : Line) (p : ℕ) → IsAgedRow entries ages used → IsPlaceOf entries ages used line p → IsLowered ages p (length entries) new → lines_by_age entries new (used - 1) ≡ without line (lines_by_age entries ages used)
   removed_lines [] ages new used line p is at lowered = absurd (omega (arith, at.within))
   removed_lines (d ∷ rest) ages new used line p is at lowered =
       let a : ℕ = get_or ages p 0 in
@@ -250,7 +250,7 @@ module _ {T : Type 0} where
       (cases_lt k a)) ∙
       sym (stands_in_lines (d ∷ rest) ages used line p is at).removed
 
-  pub IsRow-removed : (entries : List (Line × T)) (ages new : List ℕ) (used : ℕ) (line : Line) (p : ℕ) → IsRow entries ages used → IsPlaceOf entries ages used line p → IsLowered ages p (length entries) new → IsRow entries new (used - 1)
+  pub IsRow-removed : (entries : List (Line × T)) (ages new : List ℕ) (used : ℕ) (line : Line) (p : ℕ) → IsAgedRow entries ages used → IsPlaceOf entries ages used line p → IsLowered ages p (length entries) new → IsAgedRow entries new (used - 1)
   IsRow-removed entries ages new used line p is at lowered = record {
     few = is.few;
     eight = lowered.len ∙ is.eight;
@@ -260,7 +260,7 @@ module _ {T : Type 0} where
   }
 
   -- a line with a new value
-  pub replaced_lines : (entries : List (Line × T)) (ages : List ℕ) (used : ℕ) (line : Line) (p : ℕ) (value : T) → IsRow entries ages used → IsPlaceOf entries ages used line p → lines_by_age (set entries p (line, value)) ages used ≡ replaced line (record { value = value; place = p }) (lines_by_age entries ages used)
+  pub replaced_lines : (entries : List (Line × T)) (ages : List ℕ) (used : ℕ) (line : Line) (p : ℕ) (value : T) → IsAgedRow entries ages used → IsPlaceOf entries ages used line p → lines_by_age (set entries p (line, value)) ages used ≡ replaced line (record { value = value; place = p }) (lines_by_age entries ages used)
   replaced_lines entries ages used line p value is at =
       let d : Line × T = (line, value) in
       let a : ℕ = get_or ages p 0 in
@@ -291,7 +291,7 @@ module _ {T : Type 0} where
       (cases_eq k a)) ∙
       sym ((stands_in_lines entries ages used line p is at).written (record { value = value; place = p }))
 
-  pub IsRow-replaced : (entries : List (Line × T)) (ages : List ℕ) (used : ℕ) (line : Line) (p : ℕ) (value : T) → IsRow entries ages used → IsPlaceOf entries ages used line p → IsRow (set entries p (line, value)) ages used
+  pub IsRow-replaced : (entries : List (Line × T)) (ages : List ℕ) (used : ℕ) (line : Line) (p : ℕ) (value : T) → IsAgedRow entries ages used → IsPlaceOf entries ages used line p → IsAgedRow (set entries p (line, value)) ages used
   IsRow-replaced entries ages used line p value is at =
       let len : length (set entries p (line, value)) ≡ length entries = length-set entries p (line, value) in
       record {
@@ -322,7 +322,7 @@ module _ {T : Type 0} where
   place_of_found (Some v) p at = (v, refl, cc)
 
   -- what the place that the list shows tells of the places
-  pub place_told : (entries : List (Line × T)) (ages : List ℕ) (used : ℕ) (line : Line) (p : ℕ) → IsRow entries ages used → place_of line (lines_by_age entries ages used) ≡ Some p → IsPlaceOf entries ages used line p
+  pub place_told : (entries : List (Line × T)) (ages : List ℕ) (used : ℕ) (line : Line) (p : ℕ) → IsAgedRow entries ages used → place_of line (lines_by_age entries ages used) ≡ Some p → IsPlaceOf entries ages used line p
   place_told [] ages used line p is at = absurd cc
   place_told (d ∷ rest) ages used line p is at =
       let seen = place_of_found (lookup line (lines_by_age (d ∷ rest) ages used)) p at in
@@ -343,12 +343,12 @@ module _ {T : Type 0} where
       }
 
   -- another place, in which no line is
-  pub AreAges-opened : (entries : List (Line × T)) (e : Line × T) (ages : List ℕ) (used : ℕ) → IsRow entries ages used → length entries < 8 → AreAges (set ages (length entries) (length entries)) (length (entries ++ e ∷ [])) (more_place (place_of_age ages) (length entries))
+  pub AreAges-opened : (entries : List (Line × T)) (e : Line × T) (ages : List ℕ) (used : ℕ) → IsAgedRow entries ages used → length entries < 8 → AreAges (set ages (length entries) (length entries)) (length (entries ++ e ∷ [])) (more_place (place_of_age ages) (length entries))
   AreAges-opened entries e ages used is room =
       let more : length (entries ++ e ∷ []) ≡ length entries + 1 = length-append entries (e ∷ []) in
       rw more (AreAges-more ages (length entries) (place_of_age ages) is.aged (omega (arith, is.eight)))
 
-  pub opened_lines : (entries : List (Line × T)) (e : Line × T) (ages : List ℕ) (used : ℕ) → IsRow entries ages used → length entries < 8 → lines_by_age (entries ++ e ∷ []) (set ages (length entries) (length entries)) used ≡ lines_by_age entries ages used
+  pub opened_lines : (entries : List (Line × T)) (e : Line × T) (ages : List ℕ) (used : ℕ) → IsAgedRow entries ages used → length entries < 8 → lines_by_age (entries ++ e ∷ []) (set ages (length entries) (length entries)) used ≡ lines_by_age entries ages used
   opened_lines entries e ages used is room =
       let n : ℕ = length entries in
       let more : length (entries ++ e ∷ []) ≡ length entries + 1 = length-append entries (e ∷ []) in
@@ -367,11 +367,11 @@ module _ {T : Type 0} where
 
   -- the set once there is a place of an age that a line may take
   pub record IsOpened (entries : List (Line × T)) (ages : List ℕ) (used age : ℕ) (old : List (Line × Placed T)) : Type 0 where
-    pub row : IsRow entries ages used
+    pub row : IsAgedRow entries ages used
     pub lines : lines_by_age entries ages used ≡ old
     pub within : age < length entries
 
-  pub opened : (entries now : List (Line × T)) (e : Line × T) (ages new : List ℕ) (used age : ℕ) → IsRow entries ages used → age ≤ used → age < 8 → (age < length entries → (now ≡ entries) × (new ≡ ages)) → (age ≡ length entries → (now ≡ entries ++ e ∷ []) × (new ≡ set ages age age)) → IsOpened now new used age (lines_by_age entries ages used)
+  pub opened : (entries now : List (Line × T)) (e : Line × T) (ages new : List ℕ) (used age : ℕ) → IsAgedRow entries ages used → age ≤ used → age < 8 → (age < length entries → (now ≡ entries) × (new ≡ ages)) → (age ≡ length entries → (now ≡ entries ++ e ∷ []) × (new ≡ set ages age age)) → IsOpened now new used age (lines_by_age entries ages used)
   opened entries now e ages new used age is le few kept more =
       ⊎_elim
       (λ (there : age < length entries).
@@ -397,7 +397,7 @@ module _ {T : Type 0} where
       (cases_lt age (length entries))
 
   -- a line that comes takes the place of an age
-  pub added_lines : (entries : List (Line × T)) (ages new : List ℕ) (used age : ℕ) (line : Line) (value : T) → IsRow entries ages used → age < length entries → age ≤ used → IsRaised ages (place_of_age ages age) new → lines_by_age (set entries (place_of_age ages age) (line, value)) new (age + 1) ≡ (line, record { value = value; place = place_of_age ages age }) ∷ take age (lines_by_age entries ages used)
+  pub added_lines : (entries : List (Line × T)) (ages new : List ℕ) (used age : ℕ) (line : Line) (value : T) → IsAgedRow entries ages used → age < length entries → age ≤ used → IsRaised ages (place_of_age ages age) new → lines_by_age (set entries (place_of_age ages age) (line, value)) new (age + 1) ≡ (line, record { value = value; place = place_of_age ages age }) ∷ take age (lines_by_age entries ages used)
   added_lines entries ages new used age line value is within le raised =
       let q : ℕ = place_of_age ages age in
       let there = is.aged.by_age age within in
@@ -429,7 +429,7 @@ module _ {T : Type 0} where
           sym (line_at entries (line, value) x ages used v (place_of_age ages) is.filled is.aged (omega arith)) ∙
           sym (get_or-take age (lines_by_age entries ages used) v x young)
 
-  pub IsRow-added : (entries : List (Line × T)) (ages new : List ℕ) (used age : ℕ) (line : Line) (value : T) → IsRow entries ages used → age < length entries → age ≤ used → IsRaised ages (place_of_age ages age) new → lookup line (lines_by_age entries ages used) ≡ None → IsRow (set entries (place_of_age ages age) (line, value)) new (age + 1)
+  pub IsRow-added : (entries : List (Line × T)) (ages new : List ℕ) (used age : ℕ) (line : Line) (value : T) → IsAgedRow entries ages used → age < length entries → age ≤ used → IsRaised ages (place_of_age ages age) new → lookup line (lines_by_age entries ages used) ≡ None → IsAgedRow (set entries (place_of_age ages age) (line, value)) new (age + 1)
   IsRow-added entries ages new used age line value is within le raised absent =
       let q : ℕ = place_of_age ages age in
       let there = is.aged.by_age age within in
@@ -465,7 +465,7 @@ module _ {T : Type 0} where
       ap (λ l. (l, entry.1) ∷ rest) (sym (line_by_number entry.0 line (has entry)))
 
 module _ {T : Type 0} where
-  pub untouched_lines : (entries : List (Line × T)) (ages : List ℕ) (used : ℕ) (line : Line) (p : ℕ) → IsRow entries ages used → IsPlaceOf entries ages used line p → get_or ages p 0 ≡ 0 → touched line (lines_by_age entries ages used) ≡ lines_by_age entries ages used
+  pub untouched_lines : (entries : List (Line × T)) (ages : List ℕ) (used : ℕ) (line : Line) (p : ℕ) → IsAgedRow entries ages used → IsPlaceOf entries ages used line p → get_or ages p 0 ≡ 0 → touched line (lines_by_age entries ages used) ≡ lines_by_age entries ages used
   untouched_lines [] ages used line p is at front = absurd (omega (arith, at.within))
   untouched_lines (first ∷ rest) ages used line p is at front =
       let stands : StandsAt line (lines_by_age (first ∷ rest) ages used) 0 = rw front at (stands_in_lines (first ∷ rest) ages used line p is at) in
@@ -476,18 +476,18 @@ module _ {T : Type 0} where
       ap (λ q. (get_or (first ∷ rest) q first).0.0) (ap (place_of_age ages) (sym front) ∙ back) ∙ at.has first)
 
   -- the entry of a way
-  pub entry_of_way : (entries : List (Line × T)) (d : Line × T) (ages : List ℕ) (used way : ℕ) → IsRow entries ages used → way < used → Some (entry_at entries d (place_of_age ages way)) ≡ slice_get (lines_by_age entries ages used) way
+  pub entry_of_way : (entries : List (Line × T)) (d : Line × T) (ages : List ℕ) (used way : ℕ) → IsAgedRow entries ages used → way < used → Some (entry_at entries d (place_of_age ages way)) ≡ slice_get (lines_by_age entries ages used) way
   entry_of_way entries d ages used way is small =
       let x : Line × Placed T = entry_at entries d 0 in
       let within : way < length (lines_by_age entries ages used) = rw (length-lines entries ages used is.filled) small in
       sym (slice_get_within (lines_by_age entries ages used) way x within ∙
       ap (λ e. Some e) (line_at entries d x ages used way (place_of_age ages) is.filled is.aged small))
 
-  pub no_entry_of_way : (entries : List (Line × T)) (ages : List ℕ) (used way : ℕ) → IsRow entries ages used → used ≤ way → None ≡ slice_get (lines_by_age entries ages used) way
+  pub no_entry_of_way : (entries : List (Line × T)) (ages : List ℕ) (used way : ℕ) → IsAgedRow entries ages used → used ≤ way → None ≡ slice_get (lines_by_age entries ages used) way
   no_entry_of_way entries ages used way is past =
       sym ((slice_get_past (lines_by_age entries ages used) way (rw (length-lines entries ages used is.filled) past)))
 
-  pub are_places : (entries : List (Line × T)) (ages : List ℕ) (used : ℕ) → IsRow entries ages used → ArePlaces (lines_by_age entries ages used)
+  pub are_places : (entries : List (Line × T)) (ages : List ℕ) (used : ℕ) → IsAgedRow entries ages used → ArePlaces (lines_by_age entries ages used)
   are_places [] ages used is = record { below = λ l p at. absurd cc; apart = λ l k p at there. absurd cc }
   are_places (first ∷ rest) ages used is = record {
     below = λ l p at. let told = place_told (first ∷ rest) ages used l p is at in omega (arith, told.within, is.few);

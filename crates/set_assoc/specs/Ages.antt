@@ -52,14 +52,14 @@ module _ {T : Type 0} where
       (k : ℕ) (d : Line × T) → k < length entries → (slice_index_or entries k d).0.0 ≡ line.0 → used ≤ slice_index ages k
 
   -- no line is there twice
-  abbrev pub AreApart : List (Line × T) → Type 0
-  AreApart [] = Unit {0}
-  AreApart (entry ∷ rest) = (lookup entry.0 rest ≡ None) × AreApart rest
+  abbrev pub StandOnce : List (Line × T) → Type 0
+  StandOnce [] = Unit {0}
+  StandOnce (entry ∷ rest) = (lookup entry.0 rest ≡ None) × StandOnce rest
 
 -- a set with at most eight places, of which those with an age below `used` have a line
-pub record IsRow {T : Type 0} (entries : List (Line × T)) (ages : List ℕ) (used : ℕ) : Type 0 where
+pub record IsAgedRow {T : Type 0} (entries : List (Line × T)) (ages : List ℕ) (used : ℕ) : Type 0 where
   pub few : length entries ≤ 8
   pub eight : length ages ≡ 8
   pub filled : used ≤ length entries
   pub aged : AreAges ages (length entries) (place_of_age ages)
-  pub apart : AreApart (lines_by_age entries ages used)
+  pub apart : StandOnce (lines_by_age entries ages used)

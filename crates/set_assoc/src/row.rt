@@ -47,14 +47,14 @@ impl<T: Copy> Model for Row<T> {
     ghost use Rattle.std.specs.Prelude.{List, ◌≤◌};
     ghost use Rattle.std.specs.Vec.{vec_capacity};
     ghost use Rattle.conda_base.specs.declared.Line.{Line as Number};
-    ghost use Rattle.set_assoc.specs.Ages.{IsRow, lines_by_age};
+    ghost use Rattle.set_assoc.specs.Ages.{IsAgedRow, lines_by_age};
     ghost use Rattle.set_assoc.specs.declared.placed.Placed.{Placed};
 
     ghost Value = { List (Number × Placed T) };
 
     ghost view = { λ row. lines_by_age row.entries.items row.ages row.used };
 
-    ghost invariant = { λ row. IsRow row.entries.items row.ages row.used × (8 ≤ vec_capacity row.entries) };
+    ghost invariant = { λ row. IsAgedRow row.entries.items row.ages row.used × (8 ≤ vec_capacity row.entries) };
 }
 
 impl<T: Copy> Row<T> {

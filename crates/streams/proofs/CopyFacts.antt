@@ -1,5 +1,5 @@
 -- A source is copied into a sink, piece by piece.
-use Rattle.std.proofs.Common.{◌≡◌, ℕ, ◌<◌, List, [], ◌++◌, take, length, IsTrue, refl, sym, ◌∙◌, ap, subst, append_assoc, append-nil}
+use Rattle.std.proofs.Common.{◌≡◌, ℕ, ◌<◌, List, [], ◌++◌, take, length, IsTrue, sym, ◌∙◌, ap, subst, append_assoc, append-nil}
 use Rattle.conda_host.specs.declared.outside.Role.{Role}
 use Rattle.streams.specs.Seen.{Seen, IsLeft, ShowsText, Takes, Puts}
 
@@ -10,15 +10,6 @@ pub record HasCopied (streams : Seen) (role : Role) (bytes text : List ℕ) : Ty
   pub parts : bytes ≡ done ++ rest
   pub ahead : IsLeft streams rest
   pub shows : ShowsText streams role (text ++ done)
-
-pub copied_none : (v : Seen) (r : Role) (bytes text : List ℕ) → IsLeft v bytes → ShowsText v r text → HasCopied v r bytes text
-copied_none v r bytes text ahead shows = record {
-  done = [];
-  rest = bytes;
-  parts = refl;
-  ahead = ahead;
-  shows = subst (λ t. ShowsText v r t) (sym (append-nil text)) shows;
-}
 
 pub copied_more : (v w x : Seen) (r : Role) (bytes text before after : List ℕ) (n : ℕ) → HasCopied v r bytes text → Takes v w before after n → Puts w x r (take n after) → HasCopied x r bytes text
 copied_more v w x r bytes text before after n c p q =

@@ -94,9 +94,6 @@ writing_to {sinks = sinks} {role = role} {a = a} {b = b} is p = record {
 pub self_test : (a : Role) → (index_of a == index_of a) ≡ true
 self_test a = elim (role_tells a a) [ inl e ↦ e.0 | inr e ↦ absurd (e.1 refl) ]
 
-self_true : (a : Role) → IsTrue (index_of a == index_of a)
-self_true a = self_test a
-
 or_true : (b : Bool) → (b || true) ≡ true
 or_true true = refl
 or_true false = refl

@@ -8,7 +8,8 @@ use Rattle.std.proofs.lemmas.Bool.{eqb-true, eq-eqb, or_right, or_left, both_way
 use Rattle.conda_base.specs.declared.Line.{Line}
 use Rattle.conda_base.specs.LineLists.{names, with_new}
 use Rattle.try_runs.specs.Ends.{cached, in_set}
-use Rattle.try_runs.proofs.LineFacts.{or_false, same_line-swap, names-append, names-push, names-same, names-with_new, AreDistinct}
+use Rattle.conda_base.proofs.LineListLemmas.{or_false, same_line-swap, names-append, names-push, names-same, names-with_new}
+use Rattle.try_runs.proofs.LineFacts.{AreDistinct}
 
 and_no : (b : Bool) → (b && false) ≡ false
 and_no true = refl
@@ -75,9 +76,6 @@ one_of sets l k = cond (eqb (k.0 % sets) (l.0 % sets)) 1 0
 
 abbrev beside : ℕ → List Line → Line → Line → Bool
 beside sets reads l k = eqb (k.0 % sets) (l.0 % sets) && not (names reads k)
-
-count_beside : ℕ → List Line → Line → List Line → ℕ
-count_beside sets reads l writes = count_by (beside sets reads l) writes
 
 -- a line of the other list that is read doesn't count any more
 beside-read : (sets : ℕ) (reads : List Line) (l n : Line) (writes : List Line) → names reads n ≡ false → AreDistinct writes

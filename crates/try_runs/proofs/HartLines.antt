@@ -10,7 +10,7 @@ use Rattle.offload_calls.specs.State.{Setup, State}
 use Rattle.offload_calls.specs.HartAct.{hart_step, hart_stores}
 use Rattle.offload_calls.proofs.StepFacts.{OnLines, hart_lines, step_stores-on, step-memory}
 use Rattle.try_runs.specs.Serial.{IsSetup, line_bytes_of}
-use Rattle.try_runs.proofs.LineFacts.{line_eq}
+use Rattle.conda_base.proofs.LineListLemmas.{line_eq}
 use Rattle.try_runs.proofs.LineBytes.{Elsewhere, bytes_of_line-overlay}
 
 -- stores on lines that don't name this one lie elsewhere

@@ -13,7 +13,7 @@ use Rattle.conda_base.specs.LineLists.{line_at, same_line, names}
 use Rattle.try_runs.specs.Tries.{Try, writes}
 use Rattle.try_runs.specs.Fills.{byte_of}
 use Rattle.try_runs.specs.Serial.{IsSetup, IsLong, line_bytes_of, AreFresh, try_in, IsSerial}
-use Rattle.try_runs.proofs.LineFacts.{names-with_all_new}
+use Rattle.conda_base.proofs.LineListLemmas.{names-with_all_new}
 use Rattle.try_runs.proofs.LineBytes.{Elsewhere, bytes_of_line-overlay}
 use Rattle.try_runs.proofs.TryFacts.{try_over-inside}
 use Rattle.try_runs.proofs.Serial.{serial}

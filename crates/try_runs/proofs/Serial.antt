@@ -11,7 +11,7 @@ use Rattle.conda_base.specs.LineLists.{line_at, names}
 use Rattle.try_runs.specs.Tries.{Try, try_over, writes}
 use Rattle.try_runs.specs.Fills.{byte_of}
 use Rattle.try_runs.specs.Serial.{IsSetup, line_bytes_of, AreFresh, after_try, try_in, Serial}
-use Rattle.try_runs.proofs.LineFacts.{names-with_all_new}
+use Rattle.conda_base.proofs.LineListLemmas.{names-with_all_new}
 use Rattle.try_runs.proofs.TryFacts.{Agree, try_over-agree}
 use Rattle.try_runs.proofs.SerialLemmas.{core_acts-sim}
 use Rattle.try_runs.proofs.SerialLines.{written-sim, outside-sim}

@@ -18,7 +18,7 @@ use Rattle.offload_calls.proofs.SpanFacts.{SpanFits, loads-fit}
 use Rattle.conda_base.specs.LineLists.{line_at, same_line, names}
 use Rattle.try_runs.specs.Tries.{Try, is_covered, outside_line, with_line, act_effect, acted, try_act, try_over}
 use Rattle.try_runs.specs.Serial.{IsSetup, IsLong, after_try}
-use Rattle.try_runs.proofs.LineFacts.{or_false, names-append, names-with_new}
+use Rattle.conda_base.proofs.LineListLemmas.{or_false, names-append, names-with_new}
 use Rattle.try_runs.proofs.TryFacts.{try_over-inside}
 use Rattle.try_runs.proofs.SerialLemmas.{updated-same, loaded_flat, core_acts-sim}
 

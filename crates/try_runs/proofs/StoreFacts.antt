@@ -5,7 +5,8 @@ use Rattle.conda_base.specs.declared.Line.{Line}
 use Rattle.conda_base.specs.LineLists.{line_at, names, with_new, with_all_new}
 use Rattle.offload_calls.specs.Stores.{bytes_from, stored_addresses}
 use Rattle.try_runs.specs.Tries.{is_stored, is_covered, stored_lines}
-use Rattle.try_runs.proofs.LineFacts.{names-itself, AreDistinct, AreDistinct-with_all_new}
+use Rattle.conda_base.proofs.LineListLemmas.{names-itself}
+use Rattle.try_runs.proofs.LineFacts.{AreDistinct, AreDistinct-with_all_new}
 
 pub is_stored-append : (ws vs : List (ℕ × ℕ)) (a : ℕ) → is_stored (ws ++ vs) a ≡ (is_stored ws a || is_stored vs a)
 is_stored-append [] vs a = refl

@@ -21,7 +21,7 @@ use Rattle.offload_calls.proofs.StoreLemmas.{latest_stored, number_at-same}
 use Rattle.offload_calls.proofs.SpanFacts.{SpanFits, loads-fit, stores-inside}
 use Rattle.try_runs.specs.Tries.{Try, is_covered, outside_line, with_line, seen, next_plan, next_outside, act_effect, acted, try_act, try_over}
 use Rattle.try_runs.specs.Fills.{Fills, byte_of, new_line, fills_with, try_run}
-use Rattle.try_runs.proofs.LineFacts.{names-same, names-with_new, names-itself}
+use Rattle.conda_base.proofs.LineListLemmas.{names-same, names-with_new, names-itself}
 use Rattle.try_runs.proofs.StoreFacts.{are_stored_at}
 
 -- two readers agree on these lines, from an address on

@@ -3,16 +3,16 @@ ghost use Rattle.std.specs.Prelude.{◌≡◌, ◌≢◌, ◌<◌, ◌-◌, ◌�
 ghost use Rattle.conda_base.specs.Bytes.{handed_out};
 ghost use Rattle.conda_base.specs.LineLists.{line_at};
 ghost use Rattle.conda_base.specs.declared.Mesi.TheVariants.{M};
-ghost use Rattle.mesi_directory.specs.Rows.{IsIn as IsRowIn, row_of, with_row};
+ghost use Rattle.mesi_directory.specs.Rows.{HasRow, row_of, with_row};
 ghost use Rattle.traffic_trace.specs.Notes.{noted};
 ghost use Rattle.traffic_trace.specs.declared.note.Kind.TheVariants.{Fill};
 ghost use Rattle.line_memory.specs.Access.{after_load, after_store};
 ghost use Rattle.line_memory.specs.Backing.{shape_of, view_of};
 ghost use Rattle.line_memory.specs.Memory.{IsIn};
 ghost use Rattle.line_memory.specs.Notes.{access_notes, all_noted, all_notes, down_notes, note_of};
-ghost use Rattle.coherent_mem.specs.Moves.{HasRoom, IsAlone, IsFree, IsMoved, IsShared, gone_notes, list_at, row_with};
+ghost use Rattle.coherent_mem.specs.Moves.{MakesRoom, IsAlone, IsFree, IsMoved, IsShared, gone_notes, list_at, row_with};
 ghost use Rattle.coherent_mem.specs.Parts.{AreParts, held, shown};
-ghost use Rattle.coherent_mem.specs.Steps.{IsAccess, StepsTo, value_seen, view_stored};
+ghost use Rattle.coherent_mem.specs.Steps.{IsAccessTo, StepsTo, value_seen, view_stored};
 
 use crate::coherent::Coherent;
 use crate::coherent::backing::mark_of;
@@ -25,7 +25,7 @@ impl Coherent {
     #[inline(never)]
     pub(super) fn load_missed(&mut self, h: u8, addr: u32, size: u8, log: &mut Traffic) -> u32
         requires holder { h < length self.old.caches }
-        requires access { IsAccess (shown self.old) addr size }
+        requires access { IsAccessTo (shown self.old) addr size }
         requires absent { let b = shown self.old in
             held self.old (line_at b.line_bytes addr) h ≡ None }
         ensures value { result ≡ value_seen (shown self.old) addr size }
@@ -50,7 +50,7 @@ impl Coherent {
     #[inline(never)]
     pub(super) fn store_missed(&mut self, h: u8, addr: u32, size: u8, value: u32, log: &mut Traffic)
         requires holder { h < length self.old.caches }
-        requires access { IsAccess (shown self.old) addr size }
+        requires access { IsAccessTo (shown self.old) addr size }
         ensures steps { let b = shown self.old in
             StepsTo (after_store (shape_of b) b.tags h (line_at b.line_bytes addr))
             (view_stored b addr size value) b (shown self.new) }
@@ -119,7 +119,7 @@ impl Coherent {
     fn make_room(&mut self, h: u8, l: Line, log: &mut Traffic)
         requires { h < length self.old.caches }
         ensures room { let b = shown self.old in
-            HasRoom h l self.old self.new (slice_get (list_at b h l) (b.ways - 1)) }
+            MakesRoom h l self.old self.new (slice_get (list_at b h l) (b.ways - 1)) }
         ensures notes { let b = shown self.old in
             log.new ≡ all_noted log.old (gone_notes h (slice_get (list_at b h l) (b.ways - 1))) }
     {
@@ -159,7 +159,7 @@ impl Coherent {
 
 // The row of a line that comes to a holder in this state.
 fn take_row(directory: &mut Directory, l: Line, h: u8, state: Mesi)
-    requires line { IsRowIn directory.old l }
+    requires line { HasRow directory.old l }
     requires holder { h < 12 }
     ensures { directory.new ≡ with_row directory.old l (row_with state (row_of directory.old l) h) }
 {

@@ -7,7 +7,7 @@ use Rattle.rv32_hart.specs.Code.{CodeView}
 use Rattle.line_memory.specs.Backing.{BackingView}
 use Rattle.line_memory.specs.Memory.{IsMemory}
 use Rattle.coherent_mem.specs.Parts.{shown}
-use Rattle.coherent_mem.specs.Tried.{IsTried}
+use Rattle.coherent_mem.specs.Tried.{IsTestMemory}
 use Rattle.coherent_mem.proofs.tests.made.Goals as goal
 
 memory_of : (n : ℕ) → IsLineSize n → IsMemory n 0 4096
@@ -34,7 +34,7 @@ pub returns : goal.returns
 returns c =
     let items = c.in_ok-bytes.ensures.items_if_clones_equal (λ y is. is) in
     let count : length c.in_ok-bytes.bytes.items ≡ 4096 = ap length items ∙ length-replicate {A = ℕ} 4096 0 in
-    if_both c.new-2.result _ _ (λ m. IsTried (shown m)) c.new-2.ensures.unused c.new-2.ensures.kept
+    if_both c.new-2.result _ _ (λ m. IsTestMemory (shown m)) c.new-2.ensures.unused c.new-2.ensures.kept
     (λ m fresh kept. record {
       base = ap (λ (b : BackingView). b.base) fresh ∙ ap (λ (k : CodeView). k.base) c.new-code.ensures;
       size = ap (λ (b : BackingView). length b.view) fresh ∙ ap (λ (k : CodeView). length k.bytes) c.new-code.ensures ∙ count;

@@ -2,7 +2,7 @@ use Rattle.std.proofs.Common.{refl, sym, ap, ◌∙◌, subst, ℕ, Option, None
 use Rattle.conda_base.specs.declared.Line.{Line}
 use Rattle.nda_cache.specs.Tried.{IsFound}
 use Rattle.bloom_sig.specs.Signatures.{Sets, is_full_for}
-use Rattle.portion_ctl.specs.Bodies.{Puts}
+use Rattle.portion_ctl.specs.Bodies.{PutsInCache}
 use Rattle.portion_ctl.proofs.ExchangeFacts.{Accesses, atomic-ends, atomic-exchanges, atomic-parts, line-at, refused-up_to, taken-room, taken-up_to}
 use Rattle.portion_ctl.proofs.AccessFacts.{end_of_store, or_else}
 use Rattle.portion_ctl.proofs.exchange.atomic.Goals as goal
@@ -52,7 +52,7 @@ returns-clause-changed g c rd t fills holds =
       holds = holds;
     } in
     let taken = taken-up_to c.args.b.now.write_set c.insert_up_to.new.self c.line_of-l.result c.args.b.now.limits.write_limit c.insert_up_to.result c.insert_up_to.ensures.sets c.insert_up_to.ensures.answer c.if-not-insert_up_to.false in
-    let P : ℕ → Type 0 = λ n. Puts c.take-taken.new.cache c.put.new.cache c.args.addr 4 n in (
+    let P : ℕ → Type 0 = λ n. PutsInCache c.take-taken.new.cache c.put.new.cache c.args.addr 4 n in (
       atomic-ends c.args.b.now t fills c.args.addr c.args.op rd c.args.value c.line_of-l.result c.look_found-look.result c.load_end.result None a c.look_found-look.ensures.looks c.load_end.ensures (sym (ap end_of_store taken.0)) ∙ ap (λ o. or_else o None) c.in_default.is,
       atomic-exchanges (g.B.Backing.shown c.args.mem.now) c.args.b.now t fills c.args.addr c.args.op rd c.args.value c.line_of-l.result c.look_found-look.result c.take-taken.new.cache _ _ _ c.take-taken.result.value
           c.args.log.now _ a c.look_found-look.ensures.looks c.take-taken.ensures.takes c.take-taken.ensures.notes (subst P c.amo_result-word.ensures c.put.ensures) taken.1,

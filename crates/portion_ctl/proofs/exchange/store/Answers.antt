@@ -2,7 +2,7 @@ use Rattle.std.proofs.Common.{◌≡◌, sym, ap, subst, ◌∙◌, None, Some, 
 use Rattle.conda_base.specs.declared.Line.{Line}
 use Rattle.bloom_sig.specs.Signatures.{is_full_for}
 use Rattle.nda_cache.specs.Tried.{Tried, HasRoom}
-use Rattle.portion_ctl.specs.Bodies.{Puts}
+use Rattle.portion_ctl.specs.Bodies.{PutsInCache}
 use Rattle.portion_ctl.proofs.ExchangeFacts.{Accesses, line-at, store-ends, store-exchanges, store-full}
 use Rattle.portion_ctl.proofs.AccessFacts.{end_of_store}
 use Rattle.portion_ctl.proofs.exchange.store.Goals as goal
@@ -50,7 +50,7 @@ returns-in-Done-clause-stores c t fills trace memory holds =
     } in
     let done = c.in-Done.ensures.stores in
     let limit : is_full_for c.args.b.now.write_set c.line_of-l.result c.args.b.now.limits.write_limit ≡ false = sym c.is_at_limit-refused.ensures ∙ done.1 in
-    let puts : Puts c.args.b.now.cache c.store_unless.new.self c.args.addr c.args.size c.args.value = record { is = c.store_unless.ensures.tried; cache = done.2 } in (
+    let puts : PutsInCache c.args.b.now.cache c.store_unless.new.self c.args.addr c.args.size c.args.value = record { is = c.store_unless.ensures.tried; cache = done.2 } in (
       store-ends c.args.b.now t fills c.args.addr c.args.size c.args.value c.line_of-l.result None a (subst (λ (k : Line). HasRoom c.args.b.now.cache k) (sym a.line) done.0) (sym (ap end_of_store limit)),
       store-exchanges memory c.args.b.now t fills c.args.addr c.args.size c.args.value c.line_of-l.result _ _ trace a puts c.insert.ensures,
     )

@@ -5,7 +5,7 @@ use Rattle.line_memory.specs.Access.{after_load}
 use Rattle.line_memory.specs.Backing.{shape_of}
 use Rattle.coherent_mem.specs.Marked.{AreMarked}
 use Rattle.coherent_mem.specs.Parts.{Parts, AreParts, shown, held}
-use Rattle.coherent_mem.specs.Steps.{IsAccess, StepsTo, value_seen}
+use Rattle.coherent_mem.specs.Steps.{IsAccessTo, StepsTo, value_seen}
 use Rattle.coherent_mem.proofs.MarkFacts.{marked_same}
 use Rattle.coherent_mem.proofs.CoherentFacts.{coherent}
 use Rattle.coherent_mem.proofs.HitFacts.{IsLoadTry, hit_load, no_hit}
@@ -16,7 +16,7 @@ pub invariant_of-self : goal.invariant_of-self
 invariant_of-self c =
     let p : Parts = fields c.self.view_is in
     let inside : c.args.h < length p.caches = rw (← c.self.view_is) at c.requires.holder in
-    let access : IsAccess (shown p) c.args.addr c.args.size = rw (← c.self.view_is) at c.requires.access in
+    let access : IsAccessTo (shown p) c.args.addr c.args.size = rw (← c.self.view_is) at c.requires.access in
     let does : IsLoadTry p c.args.h c.args.addr c.args.size c.index_mut.result.now c.load_held.result c.load_held.new.self =
     record { read = c.index_mut.ensures.value; value = c.load_held.ensures.value; front = c.load_held.ensures.front } in
     let all = hit_load p c.args.h c.args.addr c.args.size c.in-Some.value _ _ _ c.self.invariant.1 inside access does c.in-Some.is in
@@ -35,7 +35,7 @@ pub returns-in-Some : goal.returns-in-Some
 returns-in-Some c =
     let p : Parts = fields c.self.view_is in
     let inside : c.args.h < length p.caches = rw (← c.self.view_is) at c.requires.holder in
-    let access : IsAccess (shown p) c.args.addr c.args.size = rw (← c.self.view_is) at c.requires.access in
+    let access : IsAccessTo (shown p) c.args.addr c.args.size = rw (← c.self.view_is) at c.requires.access in
     let does : IsLoadTry p c.args.h c.args.addr c.args.size c.index_mut.result.now c.load_held.result c.load_held.new.self =
     record { read = c.index_mut.ensures.value; value = c.load_held.ensures.value; front = c.load_held.ensures.front } in
     let all = hit_load p c.args.h c.args.addr c.args.size c.in-Some.value _ _ _ c.self.invariant.1 inside access does c.in-Some.is in
@@ -53,10 +53,10 @@ load_missed-requires c =
     let does : IsLoadTry p c.args.h c.args.addr c.args.size c.index_mut.result.now c.load_held.result c.load_held.new.self =
     record { read = c.index_mut.ensures.value; value = c.load_held.ensures.value; front = c.load_held.ensures.front } in
     let none = no_hit p c.args.h c.args.addr c.args.size _ _ _ c.self.invariant.1 inside does c.in-None.is in
-    let access : IsAccess (shown p) c.args.addr c.args.size = rw (← c.self.view_is) at c.requires.access in
+    let access : IsAccessTo (shown p) c.args.addr c.args.size = rw (← c.self.view_is) at c.requires.access in
     record {
       holder = subst (λ (x : Parts). c.args.h < length x.caches) (sym none.same) inside;
-      access = subst (λ (x : Parts). IsAccess (shown x) c.args.addr c.args.size) (sym none.same) access;
+      access = subst (λ (x : Parts). IsAccessTo (shown x) c.args.addr c.args.size) (sym none.same) access;
       absent = subst (λ (x : Parts). held x (line_at (shown x).line_bytes c.args.addr) c.args.h ≡ None) (sym none.same) none.absent;
     }
 

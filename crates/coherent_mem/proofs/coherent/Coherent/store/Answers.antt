@@ -10,7 +10,7 @@ use Rattle.line_memory.specs.Backing.{shape_of}
 use Rattle.coherent_mem.specs.Moves.{IsAlone}
 use Rattle.coherent_mem.specs.Marked.{AreMarked}
 use Rattle.coherent_mem.specs.Parts.{Parts, AreParts, shown}
-use Rattle.coherent_mem.specs.Steps.{IsAccess, StepsTo, view_stored}
+use Rattle.coherent_mem.specs.Steps.{IsAccessTo, StepsTo, view_stored}
 use Rattle.coherent_mem.proofs.MarkFacts.{marked_still, marked_stored, stored_states}
 use Rattle.coherent_mem.proofs.CoherentFacts.{coherent}
 use Rattle.coherent_mem.proofs.MissFacts.{line_is}
@@ -25,7 +25,7 @@ pub invariant_of-self : goal.invariant_of-self
 invariant_of-self c =
     let p : Parts = fields c.self.view_is in
     let inside : c.args.h < length p.caches = rw (← c.self.view_is) at c.requires.holder in
-    let access : IsAccess (shown p) c.args.addr c.args.size = rw (← c.self.view_is) at c.requires.access in
+    let access : IsAccessTo (shown p) c.args.addr c.args.size = rw (← c.self.view_is) at c.requires.access in
     let does : IsStoreTry p c.args.h c.args.addr c.args.size c.args.value c.index_mut.result.now c.store_owned.result c.store_owned.new.self =
     record { read = c.index_mut.ensures.value; state = c.store_owned.ensures.state; put = c.store_owned.ensures.lines } in
     let all = hit_store p c.args.h c.args.addr c.args.size c.args.value _ _ _ M c.self.invariant.1 inside access does (c.in-Some-M.is ∙ ap (λ (m : Mesi). Some m) c.in-Some-M.field-0-is) (m_not_s M refl) in
@@ -35,7 +35,7 @@ pub returns-in-Some-M : goal.returns-in-Some-M
 returns-in-Some-M c =
     let p : Parts = fields c.self.view_is in
     let inside : c.args.h < length p.caches = rw (← c.self.view_is) at c.requires.holder in
-    let access : IsAccess (shown p) c.args.addr c.args.size = rw (← c.self.view_is) at c.requires.access in
+    let access : IsAccessTo (shown p) c.args.addr c.args.size = rw (← c.self.view_is) at c.requires.access in
     let does : IsStoreTry p c.args.h c.args.addr c.args.size c.args.value c.index_mut.result.now c.store_owned.result c.store_owned.new.self =
     record { read = c.index_mut.ensures.value; state = c.store_owned.ensures.state; put = c.store_owned.ensures.lines } in
     let all = hit_store p c.args.h c.args.addr c.args.size c.args.value _ _ _ M c.self.invariant.1 inside access does (c.in-Some-M.is ∙ ap (λ (m : Mesi). Some m) c.in-Some-M.field-0-is) (m_not_s M refl) in
@@ -49,7 +49,7 @@ pub invariant_of-self-in-Some-E : goal.invariant_of-self-in-Some-E
 invariant_of-self-in-Some-E c =
     let p : Parts = fields c.self.view_is in
     let inside : c.args.h < length p.caches = rw (← c.self.view_is) at c.requires.holder in
-    let access : IsAccess (shown p) c.args.addr c.args.size = rw (← c.self.view_is) at c.requires.access in
+    let access : IsAccessTo (shown p) c.args.addr c.args.size = rw (← c.self.view_is) at c.requires.access in
     let does : IsStoreTry p c.args.h c.args.addr c.args.size c.args.value c.index_mut.result.now c.store_owned.result c.store_owned.new.self =
     record { read = c.index_mut.ensures.value; state = c.store_owned.ensures.state; put = c.store_owned.ensures.lines } in
     let all = hit_store p c.args.h c.args.addr c.args.size c.args.value _ _ _ E c.self.invariant.1 inside access does (c.in-Some-E.is ∙ ap (λ (m : Mesi). Some m) c.in-Some-E.field-0-is) (e_not_s E refl) in
@@ -62,7 +62,7 @@ pub returns-in-Some-E : goal.returns-in-Some-E
 returns-in-Some-E c =
     let p : Parts = fields c.self.view_is in
     let inside : c.args.h < length p.caches = rw (← c.self.view_is) at c.requires.holder in
-    let access : IsAccess (shown p) c.args.addr c.args.size = rw (← c.self.view_is) at c.requires.access in
+    let access : IsAccessTo (shown p) c.args.addr c.args.size = rw (← c.self.view_is) at c.requires.access in
     let does : IsStoreTry p c.args.h c.args.addr c.args.size c.args.value c.index_mut.result.now c.store_owned.result c.store_owned.new.self =
     record { read = c.index_mut.ensures.value; state = c.store_owned.ensures.state; put = c.store_owned.ensures.lines } in
     let all = hit_store p c.args.h c.args.addr c.args.size c.args.value _ _ _ E c.self.invariant.1 inside access does (c.in-Some-E.is ∙ ap (λ (m : Mesi). Some m) c.in-Some-E.field-0-is) (e_not_s E refl) in
@@ -88,10 +88,10 @@ store_missed-requires c =
     let does : IsStoreTry p c.args.h c.args.addr c.args.size c.args.value c.index_mut.result.now c.store_owned.result c.store_owned.new.self =
     record { read = c.index_mut.ensures.value; state = c.store_owned.ensures.state; put = c.store_owned.ensures.lines } in
     let same : moved p c.args.h c.store_owned.new.self p.memory p.rows ≡ p = no_store p c.args.h c.args.addr c.args.size c.args.value _ _ c.store_owned.new.self c.self.invariant.1 inside does (inl (c.in-Some-S.is ∙ ap (λ (m : Mesi). Some m) c.in-Some-S.field-0-is)) in
-    let access : IsAccess (shown p) c.args.addr c.args.size = rw (← c.self.view_is) at c.requires.access in
+    let access : IsAccessTo (shown p) c.args.addr c.args.size = rw (← c.self.view_is) at c.requires.access in
     record {
       holder = subst (λ (x : Parts). c.args.h < length x.caches) (sym same) inside;
-      access = subst (λ (x : Parts). IsAccess (shown x) c.args.addr c.args.size) (sym same) access;
+      access = subst (λ (x : Parts). IsAccessTo (shown x) c.args.addr c.args.size) (sym same) access;
     }
 
 pub returns-in-Some-S : goal.returns-in-Some-S
@@ -123,10 +123,10 @@ store_missed-requires-in-None c =
     let does : IsStoreTry p c.args.h c.args.addr c.args.size c.args.value c.index_mut.result.now c.store_owned.result c.store_owned.new.self =
     record { read = c.index_mut.ensures.value; state = c.store_owned.ensures.state; put = c.store_owned.ensures.lines } in
     let same : moved p c.args.h c.store_owned.new.self p.memory p.rows ≡ p = no_store p c.args.h c.args.addr c.args.size c.args.value _ _ c.store_owned.new.self c.self.invariant.1 inside does (inr c.in-None.is) in
-    let access : IsAccess (shown p) c.args.addr c.args.size = rw (← c.self.view_is) at c.requires.access in
+    let access : IsAccessTo (shown p) c.args.addr c.args.size = rw (← c.self.view_is) at c.requires.access in
     record {
       holder = subst (λ (x : Parts). c.args.h < length x.caches) (sym same) inside;
-      access = subst (λ (x : Parts). IsAccess (shown x) c.args.addr c.args.size) (sym same) access;
+      access = subst (λ (x : Parts). IsAccessTo (shown x) c.args.addr c.args.size) (sym same) access;
     }
 
 pub returns-in-None : goal.returns-in-None

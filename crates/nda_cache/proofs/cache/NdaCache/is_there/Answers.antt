@@ -1,7 +1,7 @@
 use Rattle.std.proofs.Common.{◌≡◌, sym, ap, ◌∙◌, refl}
 use Rattle.std.specs.Option.{is_some}
 use Rattle.set_assoc.specs.Entries.{lookup}
-use Rattle.nda_cache.specs.Index.{find}
+use Rattle.set_assoc.specs.SetLists.{find}
 use Rattle.nda_cache.proofs.TriedFacts.{there_of, IsTried-seen}
 use Rattle.nda_cache.proofs.cache.NdaCache.is_there.Goals as goal
 
