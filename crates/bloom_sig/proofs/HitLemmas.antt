@@ -4,7 +4,7 @@ use Rattle.std.proofs.lemmas.List.{append-nil}
 use Rattle.std.proofs.lemmas.Bool.{false≢true, eqb-true, eq-eqb, or_cases, or_left, or_right, and_from}
 use Rattle.conda_base.specs.declared.Line.{Line}
 use Rattle.conda_base.specs.LineLists.{names, same_line}
-use Rattle.bloom_sig.specs.Signatures.{bit_of}
+use Rattle.bloom_sig.specs.Signatures.{line_bit}
 use Rattle.bloom_sig.specs.Images.{hits, hits_both, is_member_of, is_new, is_meeting, new_after, fill_of, ListedIsMember}
 
 or_assoc : (a b c : Bool) → a || (b || c) ≡ (a || b) || c
@@ -14,8 +14,8 @@ or_assoc false b c = refl
 pub hits-append : (bits constant : ℕ) (lines others : List Line) (n : ℕ) → hits bits constant (lines ++ others) n ≡ hits bits constant lines n || hits bits constant others n
 hits-append bits constant [] others n = refl
 hits-append bits constant (line ∷ lines) others n =
-    ap (λ t. eqb (bit_of bits constant line) n || t) (hits-append bits constant lines others n) ∙
-    or_assoc (eqb (bit_of bits constant line) n) (hits bits constant lines n) (hits bits constant others n)
+    ap (λ t. eqb (line_bit bits constant line) n || t) (hits-append bits constant lines others n) ∙
+    or_assoc (eqb (line_bit bits constant line) n) (hits bits constant lines n) (hits bits constant others n)
 
 or_false : (a : Bool) → a || false ≡ a
 or_false true = refl
@@ -28,19 +28,19 @@ or_swap false true = refl
 or_swap false false = refl
 
 -- the bits with one more line
-pub hits-push : (bits constant : ℕ) (lines : List Line) (line : Line) (n : ℕ) → hits bits constant (lines ++ line ∷ []) n ≡ eqb (bit_of bits constant line) n || hits bits constant lines n
+pub hits-push : (bits constant : ℕ) (lines : List Line) (line : Line) (n : ℕ) → hits bits constant (lines ++ line ∷ []) n ≡ eqb (line_bit bits constant line) n || hits bits constant lines n
 hits-push bits constant lines line n =
     hits-append bits constant lines (line ∷ []) n ∙
-    ap (λ t. hits bits constant lines n || t) (or_false (eqb (bit_of bits constant line) n)) ∙
-    or_swap (hits bits constant lines n) (eqb (bit_of bits constant line) n)
+    ap (λ t. hits bits constant lines n || t) (or_false (eqb (line_bit bits constant line) n)) ∙
+    or_swap (hits bits constant lines n) (eqb (line_bit bits constant line) n)
 
 -- ---- lines of a list
 
-same_bit : (bits constant : ℕ) (x line : Line) → same_line x line ≡ true → bit_of bits constant x ≡ bit_of bits constant line
-same_bit bits constant x line same = ap (λ n. bit_of bits constant (record { 0 = n })) (eqb-true x.0 line.0 same)
+same_bit : (bits constant : ℕ) (x line : Line) → same_line x line ≡ true → line_bit bits constant x ≡ line_bit bits constant line
+same_bit bits constant x line same = ap (λ n. line_bit bits constant (record { 0 = n })) (eqb-true x.0 line.0 same)
 
 -- a line of the list has its bits in it
-pub hits-listed : (bits constant : ℕ) (lines : List Line) (line : Line) → names lines line ≡ true → hits bits constant lines (bit_of bits constant line) ≡ true
+pub hits-listed : (bits constant : ℕ) (lines : List Line) (line : Line) → names lines line ≡ true → hits bits constant lines (line_bit bits constant line) ≡ true
 hits-listed bits constant [] line listed = absurd (false≢true listed)
 hits-listed bits constant (x ∷ lines) line listed =
     ⊎_elim
@@ -57,13 +57,13 @@ listed_is_member bits lines line listed =
     (hits-listed bits 0x27D4EB2F lines line listed)
 
 -- a bit is that of a line of the list
-hit-listed : (bits constant : ℕ) (lines : List Line) (n : ℕ) → hits bits constant lines n ≡ true → (line : Line) × (names lines line ≡ true) × (bit_of bits constant line ≡ n)
+hit-listed : (bits constant : ℕ) (lines : List Line) (n : ℕ) → hits bits constant lines n ≡ true → (line : Line) × (names lines line ≡ true) × (line_bit bits constant line ≡ n)
 hit-listed bits constant [] n hit = absurd (false≢true hit)
 hit-listed bits constant (x ∷ lines) n hit =
-    go (or_cases (eqb (bit_of bits constant x) n) (hits bits constant lines n) hit) (hit-listed bits constant lines n)
+    go (or_cases (eqb (line_bit bits constant x) n) (hits bits constant lines n) hit) (hit-listed bits constant lines n)
   where
-    go : (eqb (bit_of bits constant x) n ≡ true) ⊎ (hits bits constant lines n ≡ true) → (hits bits constant lines n ≡ true → (line : Line) × (names lines line ≡ true) × (bit_of bits constant line ≡ n)) → (line : Line) × (names (x ∷ lines) line ≡ true) × (bit_of bits constant line ≡ n)
-    go (inl here) later = (x, or_left _ _ (eq-eqb x.0 x.0 refl), eqb-true (bit_of bits constant x) n here)
+    go : (eqb (line_bit bits constant x) n ≡ true) ⊎ (hits bits constant lines n ≡ true) → (hits bits constant lines n ≡ true → (line : Line) × (names lines line ≡ true) × (line_bit bits constant line ≡ n)) → (line : Line) × (names (x ∷ lines) line ≡ true) × (line_bit bits constant line ≡ n)
+    go (inl here) later = (x, or_left _ _ (eq-eqb x.0 x.0 refl), eqb-true (line_bit bits constant x) n here)
     go (inr there) later = let found = later there in (found.0, or_right _ _ found.1, found.2)
 
 same_bools : (a b : Bool) → (a ≡ true → b ≡ true) → (b ≡ true → a ≡ true) → a ≡ b
@@ -87,25 +87,25 @@ hits-same bits constant lines others n same =
 pub hits_both-from : (bits constant : ℕ) (lines others : List Line) (n : ℕ) → hits bits constant lines n ≡ true → hits bits constant others n ≡ true → hits_both bits constant lines others ≡ true
 hits_both-from bits constant [] others n hit other = absurd (false≢true hit)
 hits_both-from bits constant (x ∷ lines) others n hit other =
-    go (or_cases (eqb (bit_of bits constant x) n) (hits bits constant lines n) hit) (λ later. hits_both-from bits constant lines others n later other)
+    go (or_cases (eqb (line_bit bits constant x) n) (hits bits constant lines n) hit) (λ later. hits_both-from bits constant lines others n later other)
   where
-    go : (eqb (bit_of bits constant x) n ≡ true) ⊎ (hits bits constant lines n ≡ true) → (hits bits constant lines n ≡ true → hits_both bits constant lines others ≡ true) → (hits bits constant others (bit_of bits constant x) || hits_both bits constant lines others) ≡ true
-    go (inl here) later = or_left _ _ (ap (hits bits constant others) (eqb-true (bit_of bits constant x) n here) ∙ other)
+    go : (eqb (line_bit bits constant x) n ≡ true) ⊎ (hits bits constant lines n ≡ true) → (hits bits constant lines n ≡ true → hits_both bits constant lines others ≡ true) → (hits bits constant others (line_bit bits constant x) || hits_both bits constant lines others) ≡ true
+    go (inl here) later = or_left _ _ (ap (hits bits constant others) (eqb-true (line_bit bits constant x) n here) ∙ other)
     go (inr there) later = or_right _ _ (later there)
 
 pub hits_both-bit : (bits constant : ℕ) (lines others : List Line) → hits_both bits constant lines others ≡ true → (n : ℕ) × (hits bits constant lines n ≡ true) × (hits bits constant others n ≡ true)
 hits_both-bit bits constant [] others both = absurd (false≢true both)
 hits_both-bit bits constant (x ∷ lines) others both =
-    go (or_cases (hits bits constant others (bit_of bits constant x)) (hits_both bits constant lines others) both) (hits_both-bit bits constant lines others)
+    go (or_cases (hits bits constant others (line_bit bits constant x)) (hits_both bits constant lines others) both) (hits_both-bit bits constant lines others)
   where
-    go : (hits bits constant others (bit_of bits constant x) ≡ true) ⊎ (hits_both bits constant lines others ≡ true) → (hits_both bits constant lines others ≡ true → (n : ℕ) × (hits bits constant lines n ≡ true) × (hits bits constant others n ≡ true)) → (n : ℕ) × (hits bits constant (x ∷ lines) n ≡ true) × (hits bits constant others n ≡ true)
-    go (inl here) later = (bit_of bits constant x, or_left _ _ (eq-eqb (bit_of bits constant x) (bit_of bits constant x) refl), here)
+    go : (hits bits constant others (line_bit bits constant x) ≡ true) ⊎ (hits_both bits constant lines others ≡ true) → (hits_both bits constant lines others ≡ true → (n : ℕ) × (hits bits constant lines n ≡ true) × (hits bits constant others n ≡ true)) → (n : ℕ) × (hits bits constant (x ∷ lines) n ≡ true) × (hits bits constant others n ≡ true)
+    go (inl here) later = (line_bit bits constant x, or_left _ _ (eq-eqb (line_bit bits constant x) (line_bit bits constant x) refl), here)
     go (inr there) later = let found = later there in (found.0, or_right _ _ found.1, found.2)
 
 -- lists with a line in common meet
 hits_both-listed : (bits constant : ℕ) (lines others : List Line) (line : Line) → names lines line ≡ true → names others line ≡ true → hits_both bits constant lines others ≡ true
 hits_both-listed bits constant lines others line one other =
-    hits_both-from bits constant lines others (bit_of bits constant line) (hits-listed bits constant lines line one) (hits-listed bits constant others line other)
+    hits_both-from bits constant lines others (line_bit bits constant line) (hits-listed bits constant lines line one) (hits-listed bits constant others line other)
 
 pub meeting-listed : (bits : ℕ) (lines others : List Line) (line : Line) → names lines line ≡ true → names others line ≡ true → is_meeting bits lines others ≡ true
 meeting-listed bits lines others line one other =

@@ -1,6 +1,6 @@
 -- A segment's words, and the set that they are seen as.
 use Rattle.std.proofs.Common.{◌≡◌, ℕ, ◌+◌, ◌/◌, ◌<◌, ◌↔◌, Bool, true, false, List, length, set, eqb, sym, ap, subst, ◌∙◌, arith}
-use Rattle.bloom_sig.specs.Segments.{has, union, Meets}
+use Rattle.bloom_sig.specs.Segments.{is_in_set, union, Meets}
 use Rattle.bloom_sig.specs.Words.{bit_of_words, marks_of, AreWords, AreJoined, IsSet, ShareBit}
 use Rattle.bloom_sig.proofs.WordLemmas.{length-marks, mark_at, marks_set, set_words, marks_joined, joined_words, meets_of_words}
 
@@ -16,10 +16,10 @@ word_within bound words given now n are view same within =
     let len = ap length same in
     omega (arith, are.count)
 
-pub has_by_word : (bound : ℕ) (words given : List ℕ) (now : List Bool) (n : ℕ) → marks_of bound words ≡ now → given ≡ words → n < length now → eqb (bit_of_words given n) 1 ≡ has now n
+pub has_by_word : (bound : ℕ) (words given : List ℕ) (now : List Bool) (n : ℕ) → marks_of bound words ≡ now → given ≡ words → n < length now → eqb (bit_of_words given n) 1 ≡ is_in_set now n
 has_by_word bound words given now n view same within =
     let below = below_bound bound words now n view within in
-    ap (λ ws. eqb (bit_of_words ws n) 1) same ∙ sym (mark_at bound words n false below) ∙ ap (λ ms. has ms n) view
+    ap (λ ws. eqb (bit_of_words ws n) 1) same ∙ sym (mark_at bound words n false below) ∙ ap (λ ms. is_in_set ms n) view
 
 pub insert_words : (bound : ℕ) (words given new : List ℕ) (now : List Bool) (n : ℕ) → AreWords bound words → marks_of bound words ≡ now → given ≡ words → n < length now → IsSet n given new → AreWords bound new
 insert_words bound words given new now n are view same within is =

@@ -7,7 +7,7 @@ use Rattle.std.proofs.lemmas.List.FromFn.{length-map-range_with_len, get_or-map-
 use Rattle.std.proofs.lemmas.Nat.Bits.{bit_at_or, bit_at-lt, bit_at-zero, bit_at_set_same, bit_at_set_other}
 use Rattle.std.proofs.lemmas.Bool.{false≢true, cases_eq, cases_lt, eq-eqb, eqb-true}
 use Rattle.std.proofs.lemmas.Bool.Decides.{nat_tests}
-use Rattle.bloom_sig.specs.Segments.{has, union, Meets}
+use Rattle.bloom_sig.specs.Segments.{is_in_set, union, Meets}
 use Rattle.bloom_sig.specs.Words.{bit_of_words, marks_of, AreWords, AreJoined, IsSet, ShareBit}
 use Rattle.bloom_sig.proofs.SegmentLemmas.{union_by_numbers}
 
@@ -103,7 +103,7 @@ marks_joined bound old others new are is =
     let within : k / 64 < length old = omega (arith, are.count) in
     mark_at bound new k false small ∙ joined_bit k old others new within is ∙
     ap (λ b. b || eqb (bit_of_words others k) 1) (sym (mark_at bound old k false small)) ∙
-    ap (λ b. has (marks_of bound old) k || b) (sym (mark_at bound others k false small)))
+    ap (λ b. is_in_set (marks_of bound old) k || b) (sym (mark_at bound others k false small)))
 
 past_bit : (n : ℕ) (old others new : List ℕ) → AreJoined 0 (length old) old others new → bit_of_words old n ≡ 0 → bit_of_words others n ≡ 0 → bit_of_words new n ≡ 0
 past_bit n old others new is first second =
@@ -125,7 +125,7 @@ joined_words bound old others new are ours is = record {
 -- ---- bits of both
 
 -- a number in a set is below the bound
-within_marks : (marks : List Bool) (n : ℕ) → has marks n ≡ true → n < length marks
+within_marks : (marks : List Bool) (n : ℕ) → is_in_set marks n ≡ true → n < length marks
 within_marks [] n on = absurd (false≢true on)
 within_marks (x ∷ marks) zero on = omega arith
 within_marks (x ∷ marks) (suc n) on = let later = within_marks marks n on in omega arith

@@ -2,7 +2,7 @@
 use Rattle.std.specs.Prelude.{ℕ, Bool, true, ◌<◌, ◌+◌, ◌^◌, ◌&&◌, slice_set}
 use Rattle.conda_base.specs.declared.Line.{Line}
 use Rattle.bloom_sig.specs.declared.places.Places.{Places}
-use Rattle.bloom_sig.specs.Segments.{has}
+use Rattle.bloom_sig.specs.Segments.{is_in_set}
 use Rattle.bloom_sig.specs.Signatures.{Sets, first_bit, second_bit, third_bit, fourth_bit}
 
 -- those of a line
@@ -23,7 +23,7 @@ pub record AreWithin (bits : ℕ) (at : Places) : Type 0 where
 
 -- the four bits are set
 abbrev pub has_places : Sets → Places → Bool
-has_places s at = has s.first at.first && has s.second at.second && has s.third at.third && has s.fourth at.fourth
+has_places s at = is_in_set s.first at.first && is_in_set s.second at.second && is_in_set s.third at.third && is_in_set s.fourth at.fourth
 
 -- the four bits are set now, one of them newly
 abbrev pub with_places : Sets → Places → Sets

@@ -1,6 +1,6 @@
 // The places of a line's bits in the four segments.
 ghost use Rattle.std.specs.Prelude.{◌≡◌, ◌^◌, ◌<◌, ◌≤◌};
-ghost use Rattle.bloom_sig.specs.Signatures.{bit_of};
+ghost use Rattle.bloom_sig.specs.Signatures.{line_bit};
 ghost use Rattle.bloom_sig.specs.Places.{AreWithin, places_of};
 
 use conda_base::Line;
@@ -44,7 +44,7 @@ impl Places {
 fn bit_of(bits: u32, constant: u32, line: Line) -> usize
     requires some { 0 < bits }
     requires few { bits ≤ 10 }
-    ensures place { result ≡ bit_of bits constant line }
+    ensures place { result ≡ line_bit bits constant line }
     ensures within { result < 2 ^ bits }
 {
     (line.0.wrapping_mul(constant) >> (32 - bits)) as usize

@@ -13,7 +13,7 @@ use Rattle.serde_json.specs.View.{members_view}
 use Rattle.chip_config.specs.declared.keys.Entry.{Entry}
 use Rattle.chip_config.specs.declared.fault.ConfigFault.TheVariants.{NotNumber, OutOfRange}
 use Rattle.chip_config.specs.Keys.{Key, keys, keys_from, is_key, within}
-use Rattle.chip_config.specs.Settings.{are_keys, first_outside, first_without, is_memory, memory_fault, number_of, number_or, Settings}
+use Rattle.chip_config.specs.Settings.{are_keys, first_outside, first_without, is_memory, memory_fault, number_at_key, number_or, Settings}
 
 -- names that are keys
 abbrev pub are_names : List (String Global) → Bool
@@ -71,21 +71,21 @@ without_at value table i d here = ap (λ (rest : List Entry). first_without valu
 pub without_later : (value : Data) (table : List Entry) (i n : ℕ) (d : Entry) → i < length table → number_or (get_or table i d).default (get (get_or table i d).name.now value) ≡ Some n → first_without value (keys_from (i + 1) (drop i table)) ≡ first_without value (keys_from (i + 1 + 1) (drop (i + 1) table))
 without_later value table i n d here is = without_at value table i d here ∙ rw is refl
 
-pub written_more : (value : Data) (table : List Entry) (numbers : List ℕ) (i n : ℕ) (d : Entry) → i < length table → i < length numbers → number_or (get_or table i d).default (get (get_or table i d).name.now value) ≡ Some n → take (i + 1) (set numbers i n) ++ map (number_of value) (keys_from (i + 1 + 1) (drop (i + 1) table)) ≡ take i numbers ++ map (number_of value) (keys_from (i + 1) (drop i table))
+pub written_more : (value : Data) (table : List Entry) (numbers : List ℕ) (i n : ℕ) (d : Entry) → i < length table → i < length numbers → number_or (get_or table i d).default (get (get_or table i d).name.now value) ≡ Some n → take (i + 1) (set numbers i n) ++ map (number_at_key value) (keys_from (i + 1 + 1) (drop (i + 1) table)) ≡ take i numbers ++ map (number_at_key value) (keys_from (i + 1) (drop i table))
 written_more value table numbers i n d here also is =
-    let later = map (number_of value) (keys_from (i + 1 + 1) (drop (i + 1) table)) in
+    let later = map (number_at_key value) (keys_from (i + 1 + 1) (drop (i + 1) table)) in
     ap (λ front. front ++ later) (take_more_set numbers i n also)
     ∙ append_assoc (take i numbers) (n ∷ []) later
     ∙ ap (λ m. take i numbers ++ unwrap_or m 0 ∷ later) (sym is)
-    ∙ ap (λ (rest : List Entry). take i numbers ++ map (number_of value) (keys_from (i + 1) rest)) (sym (drop_more table i d here))
+    ∙ ap (λ (rest : List Entry). take i numbers ++ map (number_at_key value) (keys_from (i + 1) rest)) (sym (drop_more table i d here))
 
 -- where the table ends
 pub without_end : (value : Data) (table : List Entry) (i : ℕ) → i ≡ length table → first_without value (keys_from (i + 1) (drop i table)) ≡ None
 without_end value table i is = ap (λ (rest : List Entry). first_without value (keys_from (i + 1) rest)) (drop_all i table (omega arith))
 
-pub written_end : (value : Data) (table : List Entry) (numbers : List ℕ) (i : ℕ) → i ≡ length table → i ≡ length numbers → take i numbers ++ map (number_of value) (keys_from (i + 1) (drop i table)) ≡ numbers
+pub written_end : (value : Data) (table : List Entry) (numbers : List ℕ) (i : ℕ) → i ≡ length table → i ≡ length numbers → take i numbers ++ map (number_at_key value) (keys_from (i + 1) (drop i table)) ≡ numbers
 written_end value table numbers i is also =
-    ap (λ (rest : List Entry). take i numbers ++ map (number_of value) (keys_from (i + 1) rest)) (drop_all i table (omega arith))
+    ap (λ (rest : List Entry). take i numbers ++ map (number_at_key value) (keys_from (i + 1) rest)) (drop_all i table (omega arith))
     ∙ append-nil (take i numbers)
     ∙ take_all i numbers (omega arith)
 

@@ -80,12 +80,12 @@ abbrev pub number_or : ℕ → Option Data → Option ℕ
 number_or default None = Some default
 number_or default (Some found) = option_and_then as_u64 (as_number found)
 
-abbrev pub number_in : Data → Key → Option ℕ
-number_in value k = number_or k.default (get k.name value)
+abbrev pub key_number : Data → Key → Option ℕ
+key_number value k = number_or k.default (get k.name value)
 
 -- the same, where every key has a number
-abbrev pub number_of : Data → Key → ℕ
-number_of value k = unwrap_or (number_in value k) 0
+abbrev pub number_at_key : Data → Key → ℕ
+number_at_key value k = unwrap_or (key_number value k) 0
 
 -- every key of an object is one of the sixteen
 abbrev pub are_keys : Members → Bool
@@ -95,11 +95,11 @@ are_keys (member name of_name rest) = is_key name && are_keys rest
 -- the first of these keys that has no number
 abbrev pub first_without : Data → List Key → Option ConfigFault
 first_without value [] = None
-first_without value (k ∷ rest) = if is_some (number_in value k) then first_without value rest else Some (NotNumber k.number)
+first_without value (k ∷ rest) = if is_some (key_number value k) then first_without value rest else Some (NotNumber k.number)
 
 -- the numbers of the keys
 abbrev pub numbers_of : Data → List ℕ
-numbers_of value = map (number_of value) keys
+numbers_of value = map (number_at_key value) keys
 
 -- the first of these keys whose number, of those beside them, is out of its range
 abbrev pub first_outside : List Key → List ℕ → Option ConfigFault

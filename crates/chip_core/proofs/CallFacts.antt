@@ -27,7 +27,7 @@ use Rattle.offload_calls.specs.State.{State, status_of, updated, launched_core}
 use Rattle.offload_calls.specs.HartAct.{HartEffect, CoreChange, Stays, Starts, Rests, hart_runs, waits_next, plan_effect, call_effect, change_of_call, cores_after, hart_does, hart_step}
 use Rattle.offload_calls.specs.CoreActs.{core_runs}
 use Rattle.fallback_lock.specs.Locks.{Counts, with_backs}
-use Rattle.conda_base.specs.LineLists.{list_of}
+use Rattle.conda_base.specs.LineLists.{line_list}
 use Rattle.offload_calls.specs.LineUses.{use_of_access, stored_line, line_use}
 use Rattle.chip_laws.specs.Design.{Design, setup_of}
 use Rattle.chip_laws.specs.Notes.{hart_use, notes_of}
@@ -400,7 +400,7 @@ call-steps d w h code was hart b log cores now p puts so is s at runs plan call 
     step : CallStep d w h (change_of_call (status_of d.config.cores w.flat.cores) (w.flat.harts h).regs)
     step = record {
       cores = ap (λ (f : State). f.cores) flat;
-      lines = ap (λ x. list_of (stored_line x)) none;
+      lines = ap (λ x. line_list (stored_line x)) none;
       sound = so;
       fits = change-fits d w (w.flat.harts h).regs;
     }

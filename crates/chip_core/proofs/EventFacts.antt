@@ -11,14 +11,14 @@ use Rattle.chip_laws.specs.Rules.{World}
 use Rattle.chip_laws.specs.Worlds.{world}
 use Rattle.chip_laws.proofs.EntryLaws.{grows}
 use Rattle.schedule_log.specs.declared.entry.Entry.{Entry}
-use Rattle.chip_core.specs.Views.{ChipView, has}
+use Rattle.chip_core.specs.Views.{ChipView, is_actor_of}
 use Rattle.chip_core.specs.Shows.{Shows, Stands}
 use Rattle.chip_core.specs.Turns.{IsReached, Turns}
 
 pub reached : (d : Design) (c : ChipView) (events : List Actor) → Stands d c events → IsReached d (world d events)
 reached d c events s = record { is_design = s.is_design; events = events; actors = s.actors; leads = refl }
 
-actor-of : (d : Design) (c : ChipView) (a : Actor) → c.config ≡ d.config → IsTrue (has c a) → IsActorOf d a
+actor-of : (d : Design) (c : ChipView) (a : Actor) → c.config ≡ d.config → IsTrue (is_actor_of c a) → IsActorOf d a
 actor-of d c (Actor_is.Hart h) same there = ltb-true h d.config.harts (subst (λ (x : Settings). IsTrue (nat_lt h x.harts)) same there)
 actor-of d c (Actor_is.Core j) same there = ltb-true j d.config.cores (subst (λ (x : Settings). IsTrue (nat_lt j x.cores)) same there)
 
@@ -26,7 +26,7 @@ all-push : (P : Actor → Type 0) (xs : List Actor) (a : Actor) → AllByRecursi
 all-push P [] a h p = (p, tt)
 all-push P (x ∷ xs) a h p = (h.0, all-push P xs a h.1 p)
 
-pub stands-more : (d : Design) (c new : ChipView) (events : List Actor) (a : Actor) (entry : Entry) (puts : List ℕ) → IsTrue (has c a) → Stands d c events
+pub stands-more : (d : Design) (c new : ChipView) (events : List Actor) (a : Actor) (entry : Entry) (puts : List ℕ) → IsTrue (is_actor_of c a) → Stands d c events
     → Turns d (world d events) a new entry puts → Stands d new (events ++ a ∷ [])
 stands-more d c new events a entry puts there s t = record {
   is_design = s.is_design;

@@ -23,12 +23,12 @@ use Rattle.offload_calls.specs.declared.status.CoreStatus.TheVariants as Core_is
 use Rattle.offload_calls.specs.declared.status.HartStatus.TheVariants as Hart_is
 use Rattle.offload_calls.specs.Calls.{waits, is_idle}
 use Rattle.offload_calls.specs.Stores.{overlay, byte_at}
-use Rattle.offload_calls.specs.Effects.{Span, span_of_access, stores_of_access, loaded}
+use Rattle.offload_calls.specs.Effects.{Span, span_of_access, stores_of_access, span_value}
 use Rattle.offload_calls.specs.State.{State, status_of, updated}
 use Rattle.offload_calls.specs.HartAct.{hart_runs, steps, waits_next, plan_effect, hart_step}
 use Rattle.offload_calls.specs.CoreActs.{core_runs}
 use Rattle.fallback_lock.specs.Locks.{Counts, IsAnothers}
-use Rattle.conda_base.specs.LineLists.{list_of}
+use Rattle.conda_base.specs.LineLists.{line_list}
 use Rattle.offload_calls.specs.LineUses.{LineUse, use_of_access, stored_line, line_use}
 use Rattle.chip_laws.specs.Design.{Design, setup_of}
 use Rattle.chip_laws.specs.Notes.{hart_use, notes_of}
@@ -223,7 +223,7 @@ lock-step d w h lock same s = record {
 flat-plain : (d : Design) (f : State) (h : ℕ) (p : Planned) → hart_runs (f.harts h).status ≡ true → plan_of d.image.code (f.harts h).regs ≡ Ok p
     → is_call_access p.access ≡ false
     → hart_step (setup_of d) f h
-    ≡ (let value = loaded (byte_at d.image.code.base f.memory) (span_of_access p.access) in
+    ≡ (let value = span_value (byte_at d.image.code.base f.memory) (span_of_access p.access) in
     record {
       memory = overlay d.image.code.base f.memory (stores_of_access value p.access);
       harts = updated f.harts h (record { regs = after (f.harts h).regs p.instr value; status = Hart_is.Run });
@@ -267,7 +267,7 @@ same-use h e f g = cc
 same-notes : {c k : Shape} {t u : Tags} (h : ℕ) {x y : Option LineUse} → c ≡ k → t ≡ u → x ≡ y → use_notes c t h x ≡ use_notes k u h y
 same-notes h e f g = cc
 
-same-loaded : {b c : ℕ} {m n : List ℕ} (x : Option Span) → b ≡ c → m ≡ n → loaded (byte_at b m) x ≡ loaded (byte_at c n) x
+same-loaded : {b c : ℕ} {m n : List ℕ} (x : Option Span) → b ≡ c → m ≡ n → span_value (byte_at b m) x ≡ span_value (byte_at c n) x
 same-loaded x e f = cc
 
 same-overlay : {b c : ℕ} {m n : List ℕ} {x y : List (ℕ × ℕ)} → b ≡ c → m ≡ n → x ≡ y → overlay b m x ≡ overlay c n y
@@ -276,10 +276,10 @@ same-overlay e f g = cc
 -- the parts after an act that is no call
 pub plain-steps : (d : Design) (w : World) (h : ℕ) (code : CodeView) (hart : Hart) (b new : BackingView) (log later : Trace) (cores now : Cores) (p : Planned) (value : ℕ)
     → ShowsParts d code b log cores w → hart_runs (w.flat.harts h).status ≡ true → plan_of d.image.code (w.flat.harts h).regs ≡ Ok p
-    → is_call_access p.access ≡ false → value ≡ loaded (byte_at b.base b.view) (span_of_access p.access)
+    → is_call_access p.access ≡ false → value ≡ span_value (byte_at b.base b.view) (span_of_access p.access)
     → UsesLine h (use_of_access b.line_bytes p.access) (stores_of_access value p.access) b new
     → later ≡ all_noted log (used_notes b h (use_of_access b.line_bytes p.access))
-    → now.portions.items ≡ all_told (list_of (stored_line (use_of_access b.line_bytes p.access))) cores.portions.items
+    → now.portions.items ≡ all_told (line_list (stored_line (use_of_access b.line_bytes p.access))) cores.portions.items
     → now.statuses.items ≡ cores.statuses.items → now.lock ≡ cores.lock
     → hart ≡ record { regs = after (w.flat.harts h).regs p.instr value; status = Hart_is.Run }
     → HartSteps d w h code hart new later now []
@@ -293,7 +293,7 @@ plain-steps d w h code hart b new log later cores now p value s runs plan plain 
         memory = memory-took d w (Step h) b new log later s.memory (cast-used tags view used) (notes ∙ ap (all_noted log) noted);
         cores = subst (λ x. ShowsCores d x now.portions.items (took d w (Step h))) (sym statuses)
             (subst (λ x. ShowsCores d cores.statuses.items x (took d w (Step h))) (sym told_is)
-            (cores-step d w h cores.statuses.items cores.portions.items _ (ap (λ (f : State). f.cores) flat) (ap (λ x. list_of (stored_line x)) used_line) s.cores));
+            (cores-step d w h cores.statuses.items cores.portions.items _ (ap (λ (f : State). f.cores) flat) (ap (λ x. line_list (stored_line x)) used_line) s.cores));
         lock = subst (λ x. ShowsLock d x (took d w (Step h))) (sym lock) (lock-step d w h cores.lock (ap (λ (f : State). f.cores) flat) s.lock);
       };
       output = ap (λ (f : State). f.output) flat;
@@ -302,11 +302,11 @@ plain-steps d w h code hart b new log later cores now p value s runs plan plain 
     numbers : HasShape d b
     numbers = s.memory.numbers
 
-    seen : value ≡ loaded (byte_at d.image.code.base w.flat.memory) (span_of_access p.access)
+    seen : value ≡ span_value (byte_at d.image.code.base w.flat.memory) (span_of_access p.access)
     seen = value_is ∙ same-loaded (span_of_access p.access) numbers.base s.memory.view
 
     flat : hart_step (setup_of d) w.flat h
-        ≡ (let v = loaded (byte_at d.image.code.base w.flat.memory) (span_of_access p.access) in
+        ≡ (let v = span_value (byte_at d.image.code.base w.flat.memory) (span_of_access p.access) in
         record {
           memory = overlay d.image.code.base w.flat.memory (stores_of_access v p.access);
           harts = updated w.flat.harts h (record { regs = after (w.flat.harts h).regs p.instr v; status = Hart_is.Run });
@@ -344,7 +344,7 @@ trap-steps d w h code hart b log cores trap is s runs plan hart_is =
           notes = ap (use_notes (hart_shape d) w.tags h) none;
         });
         cores = subst (λ x. ShowsCores d cores.statuses.items x (took d w (Step h))) (sym (none-told cores.portions.items))
-            (cores-step d w h cores.statuses.items cores.portions.items [] (ap (λ (f : State). f.cores) flat) (sym (ap (λ x. list_of (stored_line x)) none)) s.cores);
+            (cores-step d w h cores.statuses.items cores.portions.items [] (ap (λ (f : State). f.cores) flat) (sym (ap (λ x. line_list (stored_line x)) none)) s.cores);
         lock = lock-step d w h cores.lock (ap (λ (f : State). f.cores) flat) s.lock;
       };
       output = ap (λ (f : State). f.output) flat;

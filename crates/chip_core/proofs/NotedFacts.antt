@@ -18,7 +18,7 @@ use Rattle.traffic_trace.specs.Notes.{Trace, noted}
 use Rattle.traffic_trace.specs.declared.note.Note.{Note}
 use Rattle.traffic_trace.specs.declared.note.Kind.{Kind}
 use Rattle.traffic_trace.specs.declared.note.Kind.TheVariants.{Fill, Back, Down, Drop, Evict, CoreFill, Merge}
-use Rattle.line_memory.specs.Tags.{Tag, Tags, Shape, held_state, set_of, each_below}
+use Rattle.line_memory.specs.Tags.{Tag, Tags, Shape, held_state, set_number, each_below}
 use Rattle.line_memory.specs.Backing.{BackingView, HasSameNumbers, IsBacking, IsInRange, shape_of, dirty_in}
 use Rattle.line_memory.specs.Notes.{note_of, all_noted, back_notes, leave_notes, down_notes, evict_notes, last_notes, room_notes, fill_notes, load_notes, store_notes, access_notes, flush_notes, flushes_notes, commit_notes, others_notes, all_notes}
 use Rattle.offload_calls.specs.LineUses.{LineUse, use_of_access}
@@ -107,9 +107,9 @@ module _ (P : Line → Type 0) where
 
   fill-on : (c : Shape) (tags : Tags) (h : ℕ) (l : Line) → P l → ((k s : ℕ) → All (λ (tag : Tag). P tag.0) (tags k s)) → Are (fill_notes c tags h l)
   fill-on c tags h l p held =
-      both (room_notes c.ways h (tags h (set_of c l))) (note_of Fill h l ∷ [])
-      (cond_both (nat_le c.ways (length (tags h (set_of c l)))) (last_notes h (tags h (set_of c l))) [] Are
-      (λ _. last-on h (tags h (set_of c l)) (held h (set_of c l))) (λ _. no-notes))
+      both (room_notes c.ways h (tags h (set_number c l))) (note_of Fill h l ∷ [])
+      (cond_both (nat_le c.ways (length (tags h (set_number c l)))) (last_notes h (tags h (set_number c l))) [] Are
+      (λ _. last-on h (tags h (set_number c l)) (held h (set_number c l))) (λ _. no-notes))
       (one Fill h l [] p no-notes)
 
   load-on : (c : Shape) (tags : Tags) (h : ℕ) (l : Line) (s : Option Mesi) → P l → ((k i : ℕ) → All (λ (tag : Tag). P tag.0) (tags k i)) → Are (load_notes c tags h l s)

@@ -11,13 +11,13 @@ use Rattle.line_memory.specs.Tags.{Tags}
 use Rattle.line_memory.specs.Backing.{BackingView, HasSameNumbers, IsInRange}
 use Rattle.line_memory.specs.Notes.{all_noted}
 use Rattle.traffic_trace.specs.Notes.{Trace}
-use Rattle.bloom_sig.specs.Signatures.{is_member, empty as no_lines}
+use Rattle.bloom_sig.specs.Signatures.{is_member, no_lines}
 use Rattle.bloom_sig.specs.Images.{is_member_of}
 use Rattle.bloom_sig.proofs.ImageLemmas.{members_are_of_lines}
 use Rattle.coherent_mem.specs.Steps.{IsCoherent}
 use Rattle.offload_calls.specs.CoreActs.{core_runs}
 use Rattle.fallback_lock.specs.Locks.{Counts, backs_of}
-use Rattle.conda_base.specs.LineLists.{names, list_of}
+use Rattle.conda_base.specs.LineLists.{names, line_list}
 use Rattle.try_runs.specs.Limits.{limits_of}
 use Rattle.try_runs.specs.declared.limits.Limits.{Limits}
 use Rattle.std.proofs.Math.Path.{fun_ext}
@@ -341,7 +341,7 @@ flush-turn d w j code b new log later cores left s l held event may owed at cohe
         (flushed_steps b l may.coherent.backing (subst IsBacking flush.memory coherent.backing) in_range))
 
     noted_is : later ≡ all_noted log (notes_of d w (Flush j))
-    noted_is = flush.log ∙ ap (all_noted log) (same m.numbers.shape m.tags ∙ sym (append-nil (flush_notes (hart_shape d) w.tags l)) ∙ ap (λ x. flushes_notes (hart_shape d) w.tags (list_of x)) (sym line-is))
+    noted_is = flush.log ∙ ap (all_noted log) (same m.numbers.shape m.tags ∙ sym (append-nil (flush_notes (hart_shape d) w.tags l)) ∙ ap (λ x. flushes_notes (hart_shape d) w.tags (line_list x)) (sym line-is))
       where
         same : {c k : Shape} {t u : Tags} → c ≡ k → t ≡ u → flush_notes c t l ≡ flush_notes k u l
         same e f = cc

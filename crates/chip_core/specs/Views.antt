@@ -30,8 +30,8 @@ pub record ChipView : Type 0 where
   pub lock : Counts
   pub log : Trace
 
-abbrev pub view_of : Settings → CodeView → Parts → List Hart → Cores → Trace → ChipView
-view_of config code memory harts cores log = record {
+abbrev pub chip_view : Settings → CodeView → Parts → List Hart → Cores → Trace → ChipView
+chip_view config code memory harts cores log = record {
   config = config;
   code = code;
   memory = memory;
@@ -83,6 +83,6 @@ abbrev pub try_at : ChipView → ℕ → Option OpenView
 try_at c j = option_and_then open_try (slice_get c.portions j)
 
 -- the chip has this hart or near-data core
-abbrev pub has : ChipView → Actor → Bool
-has c (Actor_is.Hart h) = nat_lt h c.config.harts
-has c (Actor_is.Core j) = nat_lt j c.config.cores
+abbrev pub is_actor_of : ChipView → Actor → Bool
+is_actor_of c (Actor_is.Hart h) = nat_lt h c.config.harts
+is_actor_of c (Actor_is.Core j) = nat_lt j c.config.cores

@@ -6,7 +6,7 @@ ghost use Rattle.chip_laws.specs.Design.{Design, IsDesign, design_for};
 ghost use Rattle.chip_laws.specs.Rules.{World, next};
 ghost use Rattle.chip_laws.specs.Worlds.{output_of, world};
 ghost use Rattle.chip_laws.specs.Untouched.{Untouched};
-ghost use Rattle.chip_core.specs.Views.{has};
+ghost use Rattle.chip_core.specs.Views.{is_actor_of};
 ghost use Rattle.chip_core.specs.Shows.{Shows, Stands};
 ghost use Rattle.chip_core.specs.Views.{try_at};
 ghost use Rattle.coherent_mem.specs.Parts.{shown};
@@ -49,14 +49,14 @@ pub struct Chip {
 
 impl Model for Chip {
     ghost use Rattle.chip_config.specs.Settings.{settings};
-    ghost use Rattle.chip_core.specs.Views.{ChipView, IsChip, view_of};
+    ghost use Rattle.chip_core.specs.Views.{ChipView, IsChip, chip_view};
 
     ghost Value = { ChipView };
 
-    ghost view = { λ c. view_of (settings c.config) c.code c.memory c.harts.items c.cores c.log };
+    ghost view = { λ c. chip_view (settings c.config) c.code c.memory c.harts.items c.cores c.log };
 
     ghost invariant = { λ c.
-        IsChip (view_of (settings c.config) c.code c.memory c.harts.items c.cores c.log) };
+        IsChip (chip_view (settings c.config) c.code c.memory c.harts.items c.cores c.log) };
 }
 
 impl Chip {
@@ -111,7 +111,7 @@ impl Chip {
 
     /// Whether the chip has this hart or near-data core.
     pub fn has(&self, a: Actor) -> bool
-        ensures { result ≡ has self.now a }
+        ensures { result ≡ is_actor_of self.now a }
     {
         match a {
             Actor::Hart(h) => (h as u32) < self.config.harts,
@@ -121,7 +121,7 @@ impl Chip {
 
     /// One event of a hart or near-data core.
     pub fn event(&mut self, a: Actor) -> Event
-        requires { IsTrue (has self.old a) }
+        requires { IsTrue (is_actor_of self.old a) }
         ensures entry { (d : Design) (events : List Actor) → Stands d self.old events
             → result.entry ≡ next d (world d events) a }
         ensures stands { (d : Design) (events : List Actor) → Stands d self.old events
@@ -140,7 +140,7 @@ impl Chip {
     // One event, over any world that the chip shows: its entry. What it puts comes into `out`, so
     // that no buffer is copied.
     pub(crate) fn turn(&mut self, a: Actor, out: &mut ArrayVec<u8, 64>) -> Entry
-        requires has { IsTrue (has self.old a) }
+        requires has { IsTrue (is_actor_of self.old a) }
         requires empty { out.old.items ≡ [] }
         ensures turns { (d : Design) (w : World) → IsReached d w → Shows d self.old w
             → Turns d w a self.new result out.new.items }

@@ -7,8 +7,8 @@ ghost use Rattle.conda_base.specs.Lines.{IsLineSize};
 ghost use Rattle.rv32_hart.specs.Act.{AccessFits};
 ghost use Rattle.rv32_hart.specs.Arithmetic.{amo_result};
 ghost use Rattle.offload_calls.specs.Stores.{byte_at, bytes_from, number_at};
-ghost use Rattle.offload_calls.specs.Effects.{span_of_access, stores_of_access, loaded};
-ghost use Rattle.conda_base.specs.LineLists.{line_at, list_of};
+ghost use Rattle.offload_calls.specs.Effects.{span_of_access, stores_of_access, span_value};
+ghost use Rattle.conda_base.specs.LineLists.{line_at, line_list};
 ghost use Rattle.offload_calls.specs.LineUses.{use_of_access, stored_line};
 ghost use Rattle.chip_core.specs.Steps.{UsesLine, used_notes, all_told, loads_line, stores_line};
 ghost use Rattle.chip_core.specs.Views.{FitsCode};
@@ -37,7 +37,7 @@ pub fn exchange(
     requires line_bytes { line_bytes ≡ (shown memory.old).line_bytes }
     requires fits { AccessFits code.now access }
     ensures value { let b = shown memory.old in
-        result ≡ loaded (byte_at b.base b.view) (span_of_access access) }
+        result ≡ span_value (byte_at b.base b.view) (span_of_access access) }
     ensures memory { let b = shown memory.old in
         UsesLine h (use_of_access b.line_bytes access) (stores_of_access result access)
         b (shown memory.new) }
@@ -46,7 +46,7 @@ pub fn exchange(
     ensures kept { IsCoherent (shown memory.new) }
     ensures told { let b = shown memory.old in
         portions.new
-        ≡ all_told (list_of (stored_line (use_of_access b.line_bytes access))) portions.old }
+        ≡ all_told (line_list (stored_line (use_of_access b.line_bytes access))) portions.old }
 {
     match access {
         Access::Nothing | Access::Call => 0,

@@ -12,7 +12,7 @@ use Rattle.offload_calls.specs.State.{State}
 use Rattle.offload_calls.specs.CoreActs.{core_runs}
 use Rattle.line_memory.specs.Tags.{Tags, dirty_lines}
 use Rattle.conda_base.specs.LineLists.{names, same_line, line_at}
-use Rattle.try_runs.specs.Tries.{Try, try_act, try_over, acted, act_effect, with_line, next_outside}
+use Rattle.try_runs.specs.Tries.{Try, try_act, try_over, acted, try_effect, with_some_line, next_outside}
 use Rattle.try_runs.specs.Fills.{try_run, byte_of, new_line, fills_with}
 use Rattle.conda_base.proofs.LineListLemmas.{line_eq, same_line-eq, names-with_new}
 use Rattle.try_runs.proofs.TryFacts.{try_over-agree}
@@ -73,7 +73,7 @@ old_fill fills copies ls (Some n) l new r =
     (λ _. refl)
 
 -- a line read after the act was read before, or is the one that is filled
-read_or_new : (ls : List Line) (x : Option Line) (l : Line) → names (with_line ls x) l ≡ true → (names ls l ≡ true) ⊎ (new_line ls x ≡ Some l)
+read_or_new : (ls : List Line) (x : Option Line) (l : Line) → names (with_some_line ls x) l ≡ true → (names ls l ≡ true) ⊎ (new_line ls x ≡ Some l)
 read_or_new ls None l r = inl r
 read_or_new ls (Some n) l r = go (names ls n) refl (or_cases (names ls l) (same_line n l) (sym (names-with_new ls n l) ∙ r))
   where
@@ -102,14 +102,14 @@ module _ (p : Design) (w : World) (o : Opening) (g : KeepsFresh p w) where
 
   -- what was read with one more act
   pub more_reads : (core_runs before.core.status ≡ true → (try_run p.image.code p.config.line_bytes o.regs fills (suc o.acts)).reads
-      ≡ with_line before.reads (next_outside p.image.code p.config.line_bytes before))
+      ≡ with_some_line before.reads (next_outside p.image.code p.config.line_bytes before))
       × (core_runs before.core.status ≡ false → (try_run p.image.code p.config.line_bytes o.regs fills (suc o.acts)).reads ≡ before.reads)
   unfolding try_over try_act
   more_reads = (
-    (λ run. sym (ap (λ (t : Try). (cond (core_runs t.core.status) (acted p.image.code p.config.line_bytes t (act_effect p.image.code (byte_of p.config.line_bytes fills) t)) t).reads) same_before)
-        ∙ ap (λ b. (cond b (acted p.image.code p.config.line_bytes before (act_effect p.image.code (byte_of p.config.line_bytes fills) before)) before).reads) run),
-    (λ run. sym (ap (λ (t : Try). (cond (core_runs t.core.status) (acted p.image.code p.config.line_bytes t (act_effect p.image.code (byte_of p.config.line_bytes fills) t)) t).reads) same_before)
-        ∙ ap (λ b. (cond b (acted p.image.code p.config.line_bytes before (act_effect p.image.code (byte_of p.config.line_bytes fills) before)) before).reads) run),
+    (λ run. sym (ap (λ (t : Try). (cond (core_runs t.core.status) (acted p.image.code p.config.line_bytes t (try_effect p.image.code (byte_of p.config.line_bytes fills) t)) t).reads) same_before)
+        ∙ ap (λ b. (cond b (acted p.image.code p.config.line_bytes before (try_effect p.image.code (byte_of p.config.line_bytes fills) before)) before).reads) run),
+    (λ run. sym (ap (λ (t : Try). (cond (core_runs t.core.status) (acted p.image.code p.config.line_bytes t (try_effect p.image.code (byte_of p.config.line_bytes fills) t)) t).reads) same_before)
+        ∙ ap (λ b. (cond b (acted p.image.code p.config.line_bytes before (try_effect p.image.code (byte_of p.config.line_bytes fills) before)) before).reads) run),
   )
 
   -- each line read has its flat bytes, unless it is foreign

@@ -6,7 +6,7 @@ use Rattle.set_assoc.specs.Entries.{lookup}
 use Rattle.conda_base.specs.declared.Line.{Line}
 use Rattle.conda_base.specs.declared.Mesi.{Mesi}
 use Rattle.conda_base.specs.declared.Mesi.TheVariants.{M, E, S}
-use Rattle.line_memory.specs.Tags.{Tag, Tags, without_line, cleaned_at, Shape, set_of, held_state}
+use Rattle.line_memory.specs.Tags.{Tag, Tags, without_line, cleaned_at, Shape, set_number, held_state}
 use Rattle.conda_base.specs.LineLists.{names, same_line}
 use Rattle.offload_calls.specs.LineUses.{LineUse}
 use Rattle.conda_base.proofs.LineListLemmas.{line_eq, same_line-eq}
@@ -273,11 +273,11 @@ leaves-bal h l ns e b f v d = record { even = split e b d }
     split false false d = omega (arith, f, v)
 
 -- what hart h has of line n, where that is line l
-held_same : (c : Shape) (tags : Tags) (h : ℕ) (n l : Line) → (is_some (held_state c tags h n) && same_line n l) ≡ (same_line n l && is_held l (tags h (set_of c l)))
+held_same : (c : Shape) (tags : Tags) (h : ℕ) (n l : Line) → (is_some (held_state c tags h n) && same_line n l) ≡ (same_line n l && is_held l (tags h (set_number c l)))
 held_same c tags h n l = go (same_line n l) refl
   where
-    go : (b : Bool) → same_line n l ≡ b → (is_some (held_state c tags h n) && b) ≡ (b && is_held l (tags h (set_of c l)))
-    go true e = swap (is_some (held_state c tags h n)) ∙ ap (λ k. is_held k (tags h (set_of c k))) (line_eq n l e)
+    go : (b : Bool) → same_line n l ≡ b → (is_some (held_state c tags h n) && b) ≡ (b && is_held l (tags h (set_number c l)))
+    go true e = swap (is_some (held_state c tags h n)) ∙ ap (λ k. is_held k (tags h (set_number c k))) (line_eq n l e)
       where
         swap : (b : Bool) → (b && true) ≡ b
         swap true = refl
@@ -290,9 +290,9 @@ kinds_leave h l kind s t n k x = leave-none (is_note kind h l) s t n k x
 
 -- another hart stores to line n
 drops-bal : (c : Shape) (tags : Tags) (i : ℕ) (n : Line) (h : ℕ) (l : Line) → h < c.holders → eqb h i ≡ false
-    → Bal h l (others_notes leave_notes c tags i n) (is_held l (tags h (set_of c l))) (not (same_line n l) && is_held l (tags h (set_of c l)))
+    → Bal h l (others_notes leave_notes c tags i n) (is_held l (tags h (set_number c l))) (not (same_line n l) && is_held l (tags h (set_number c l)))
 drops-bal c tags i n h l u ne =
-    leaves-bal h l (others_notes leave_notes c tags i n) (same_line n l) (is_held l (tags h (set_of c l)))
+    leaves-bal h l (others_notes leave_notes c tags i n) (same_line n l) (is_held l (tags h (set_number c l)))
     (others-none (is_note Kind_is.Fill h l) leave_notes (kinds_leave h l Kind_is.Fill (skip _ Kind_is.Back (λ k n. refl)) (skip _ Kind_is.Drop (λ k n. refl))) c tags i n)
     (others-none (is_note Kind_is.Evict h l) leave_notes (kinds_leave h l Kind_is.Evict (skip _ Kind_is.Back (λ k n. refl)) (skip _ Kind_is.Drop (λ k n. refl))) c tags i n)
     (that-one (is_note Kind_is.Drop h l) c.holders _ h u
@@ -313,9 +313,9 @@ own-drops-bal c tags n h l b =
 
 -- a commit of one line
 all-drops-bal : (c : Shape) (tags : Tags) (n : Line) (h : ℕ) (l : Line) → h < c.holders
-    → Bal h l (all_notes leave_notes c tags n) (is_held l (tags h (set_of c l))) (not (same_line n l) && is_held l (tags h (set_of c l)))
+    → Bal h l (all_notes leave_notes c tags n) (is_held l (tags h (set_number c l))) (not (same_line n l) && is_held l (tags h (set_number c l)))
 all-drops-bal c tags n h l u =
-    leaves-bal h l (all_notes leave_notes c tags n) (same_line n l) (is_held l (tags h (set_of c l)))
+    leaves-bal h l (all_notes leave_notes c tags n) (same_line n l) (is_held l (tags h (set_number c l)))
     (all-none (is_note Kind_is.Fill h l) leave_notes (kinds_leave h l Kind_is.Fill (skip _ Kind_is.Back (λ k n. refl)) (skip _ Kind_is.Drop (λ k n. refl))) c tags n)
     (all-none (is_note Kind_is.Evict h l) leave_notes (kinds_leave h l Kind_is.Evict (skip _ Kind_is.Back (λ k n. refl)) (skip _ Kind_is.Drop (λ k n. refl))) c tags n)
     (that-one (is_note Kind_is.Drop h l) c.holders _ h u (λ k other. drop-other h k l n (ne_eqb k h other) (held_state c tags k n))
@@ -338,36 +338,36 @@ last-other h i l e (t ∷ u ∷ ts) = last-other h i l e (u ∷ ts)
 
 -- the notes of a fill, by those of its two parts
 fill-counts : (kind : Kind) (c : Shape) (tags : Tags) (i : ℕ) (n : Line) (h : ℕ) (l : Line) (r f : ℕ)
-    → count kind h l (room_notes c.ways i (tags i (set_of c n))) ≡ r → count kind h l (note_of Kind_is.Fill i n ∷ []) ≡ f
+    → count kind h l (room_notes c.ways i (tags i (set_number c n))) ≡ r → count kind h l (note_of Kind_is.Fill i n ∷ []) ≡ f
     → count kind h l (fill_notes c tags i n) ≡ r + f
 fill-counts kind c tags i n h l r f room fill =
-    let both = that-append (is_note kind h l) (room_notes c.ways i (tags i (set_of c n))) (note_of Kind_is.Fill i n ∷ []) in omega arith
+    let both = that-append (is_note kind h l) (room_notes c.ways i (tags i (set_number c n))) (note_of Kind_is.Fill i n ∷ []) in omega arith
 
 drops-in-fill : (c : Shape) (tags : Tags) (i : ℕ) (n : Line) (h : ℕ) (l : Line) → count Kind_is.Drop h l (fill_notes c tags i n) ≡ 0
 drops-in-fill c tags i n h l =
     fill-counts Kind_is.Drop c tags i n h l 0 0
-    (room-none (is_note Kind_is.Drop h l) (skip _ Kind_is.Back (λ k n. refl)) (skip _ Kind_is.Evict (λ k n. refl)) c.ways i (tags i (set_of c n))) refl
+    (room-none (is_note Kind_is.Drop h l) (skip _ Kind_is.Back (λ k n. refl)) (skip _ Kind_is.Evict (λ k n. refl)) c.ways i (tags i (set_number c n))) refl
 
 -- another hart fills line n
 fill-other-bal : (c : Shape) (tags : Tags) (i : ℕ) (n : Line) (h : ℕ) (l : Line) (b : Bool) → eqb i h ≡ false → Bal h l (fill_notes c tags i n) b b
 fill-other-bal c tags i n h l b ne =
     bal-none h l (fill_notes c tags i n) b
     (fill-counts Kind_is.Fill c tags i n h l 0 0
-    (room-none (is_note Kind_is.Fill h l) (skip _ Kind_is.Back (λ k n. refl)) (skip _ Kind_is.Evict (λ k n. refl)) c.ways i (tags i (set_of c n)))
+    (room-none (is_note Kind_is.Fill h l) (skip _ Kind_is.Back (λ k n. refl)) (skip _ Kind_is.Evict (λ k n. refl)) c.ways i (tags i (set_number c n)))
     (ap (λ x. cond x 1 0 + 0) (not_who true (eqb i h) (same_line n l) ne)))
     (fill-counts Kind_is.Evict c tags i n h l 0 0
-    (cond_both (leb c.ways (length (tags i (set_of c n)))) (last_notes i (tags i (set_of c n))) [] (λ ns. count Kind_is.Evict h l ns ≡ 0)
-    (λ _. last-other h i l ne (tags i (set_of c n))) (λ _. refl)) refl)
+    (cond_both (leb c.ways (length (tags i (set_number c n)))) (last_notes i (tags i (set_number c n))) [] (λ ns. count Kind_is.Evict h l ns ≡ 0)
+    (λ _. last-other h i l ne (tags i (set_number c n))) (λ _. refl)) refl)
     (drops-in-fill c tags i n h l)
 
 -- hart h fills line n, which then stands in front
-fill-own-bal : (c : Shape) (tags : Tags) (n : Line) (m : Mesi) (h : ℕ) (l : Line) → 0 < c.ways → TagsFit c tags → is_held n (tags h (set_of c n)) ≡ false
-    → Bal h l (fill_notes c tags h n) (is_held l (tags h (set_of c l)))
-    (is_held l (cond (eqb (set_of c l) (set_of c n)) (put_front c.ways n m (tags h (set_of c l))) (tags h (set_of c l))))
-fill-own-bal c tags n m h l some fits out = record { even = go (eqb (set_of c l) (set_of c n)) refl }
+fill-own-bal : (c : Shape) (tags : Tags) (n : Line) (m : Mesi) (h : ℕ) (l : Line) → 0 < c.ways → TagsFit c tags → is_held n (tags h (set_number c n)) ≡ false
+    → Bal h l (fill_notes c tags h n) (is_held l (tags h (set_number c l)))
+    (is_held l (cond (eqb (set_number c l) (set_number c n)) (put_front c.ways n m (tags h (set_number c l))) (tags h (set_number c l))))
+fill-own-bal c tags n m h l some fits out = record { even = go (eqb (set_number c l) (set_number c n)) refl }
   where
     set : ℕ
-    set = set_of c n
+    set = set_number c n
 
     room : ℕ
     room = count Kind_is.Evict h l (room_notes c.ways h (tags h set))
@@ -387,18 +387,18 @@ fill-own-bal c tags n m h l some fits out = record { even = go (eqb (set_of c l)
     whole : one (same_line n l) + one (is_held l (tags h set)) ≡ room + one (is_held l (put_front c.ways n m (tags h set)))
     whole = load_balance c.ways h n l m (tags h set) some (fits.short h set) (fits.owners.once h set) out
 
-    go : (b : Bool) → eqb (set_of c l) set ≡ b
-        → count Kind_is.Fill h l (fill_notes c tags h n) + one (is_held l (tags h (set_of c l)))
+    go : (b : Bool) → eqb (set_number c l) set ≡ b
+        → count Kind_is.Fill h l (fill_notes c tags h n) + one (is_held l (tags h (set_number c l)))
         ≡ count Kind_is.Evict h l (fill_notes c tags h n) + count Kind_is.Drop h l (fill_notes c tags h n)
-        + one (is_held l (cond b (put_front c.ways n m (tags h (set_of c l))) (tags h (set_of c l))))
+        + one (is_held l (cond b (put_front c.ways n m (tags h (set_number c l))) (tags h (set_number c l))))
     go true e =
         subst (λ s. count Kind_is.Fill h l (fill_notes c tags h n) + one (is_held l (tags h s))
         ≡ count Kind_is.Evict h l (fill_notes c tags h n) + count Kind_is.Drop h l (fill_notes c tags h n) + one (is_held l (put_front c.ways n m (tags h s))))
-        (sym (eqb-true (set_of c l) set e))
+        (sym (eqb-true (set_number c l) set e))
         (omega (arith, fills, evicts, drops, whole))
     go false e =
-        let apart : same_line n l ≡ false = false_from_ne_true _ (λ same. false≢true (sym e ∙ eq-eqb (set_of c l) set (ap (set_of c) (sym (line_eq n l same))))) in
-        let none : is_held l (tags h set) ≡ false = fits.placed h set l (ne_eqb set (set_of c l) (λ same. eqb-false (set_of c l) set e (sym same))) in
+        let apart : same_line n l ≡ false = false_from_ne_true _ (λ same. false≢true (sym e ∙ eq-eqb (set_number c l) set (ap (set_number c) (sym (line_eq n l same))))) in
+        let none : is_held l (tags h set) ≡ false = fits.placed h set l (ne_eqb set (set_number c l) (λ same. eqb-false (set_number c l) set e (sym same))) in
         let no_fill : one (same_line n l) ≡ 0 = ap one apart in
         let no_held : one (is_held l (tags h set)) ≡ 0 = ap one none in
         omega (arith, fills, evicts, drops, whole)
@@ -406,33 +406,33 @@ fill-own-bal c tags n m h l some fits out = record { even = go (eqb (set_of c l)
 -- ---- one access
 
 -- a line that hart h holds comes in front of its list
-own-hit : (c : Shape) (tags : Tags) (n : Line) (m : Mesi) (h : ℕ) (l : Line) → TagsFit c tags → is_held n (tags h (set_of c n)) ≡ true
-    → is_held l (tags h (set_of c l)) ≡ is_held l (cond (eqb (set_of c l) (set_of c n)) (put_front c.ways n m (tags h (set_of c l))) (tags h (set_of c l)))
-own-hit c tags n m h l fits held = go (eqb (set_of c l) (set_of c n)) refl
+own-hit : (c : Shape) (tags : Tags) (n : Line) (m : Mesi) (h : ℕ) (l : Line) → TagsFit c tags → is_held n (tags h (set_number c n)) ≡ true
+    → is_held l (tags h (set_number c l)) ≡ is_held l (cond (eqb (set_number c l) (set_number c n)) (put_front c.ways n m (tags h (set_number c l))) (tags h (set_number c l)))
+own-hit c tags n m h l fits held = go (eqb (set_number c l) (set_number c n)) refl
   where
-    go : (b : Bool) → eqb (set_of c l) (set_of c n) ≡ b → is_held l (tags h (set_of c l)) ≡ is_held l (cond b (put_front c.ways n m (tags h (set_of c l))) (tags h (set_of c l)))
+    go : (b : Bool) → eqb (set_number c l) (set_number c n) ≡ b → is_held l (tags h (set_number c l)) ≡ is_held l (cond b (put_front c.ways n m (tags h (set_number c l))) (tags h (set_number c l)))
     go true e =
-        subst (λ s. is_held l (tags h s) ≡ is_held l (put_front c.ways n m (tags h s))) (sym (eqb-true (set_of c l) (set_of c n) e))
-        (sym (held-hit c.ways n l m (tags h (set_of c n)) (fits.short h (set_of c n)) (fits.owners.once h (set_of c n)) held))
+        subst (λ s. is_held l (tags h s) ≡ is_held l (put_front c.ways n m (tags h s))) (sym (eqb-true (set_number c l) (set_number c n) e))
+        (sym (held-hit c.ways n l m (tags h (set_number c n)) (fits.short h (set_number c n)) (fits.owners.once h (set_number c n)) held))
     go false e = refl
 
 -- a line that is taken from hart h's list
 other-without : (c : Shape) (tags : Tags) (n : Line) (h : ℕ) (l : Line)
-    → (not (same_line n l) && is_held l (tags h (set_of c l))) ≡ is_held l (cond (eqb (set_of c l) (set_of c n)) (without_line n (tags h (set_of c l))) (tags h (set_of c l)))
-other-without c tags n h l = go (eqb (set_of c l) (set_of c n)) refl
+    → (not (same_line n l) && is_held l (tags h (set_number c l))) ≡ is_held l (cond (eqb (set_number c l) (set_number c n)) (without_line n (tags h (set_number c l))) (tags h (set_number c l)))
+other-without c tags n h l = go (eqb (set_number c l) (set_number c n)) refl
   where
-    go : (b : Bool) → eqb (set_of c l) (set_of c n) ≡ b
-        → (not (same_line n l) && is_held l (tags h (set_of c l))) ≡ is_held l (cond b (without_line n (tags h (set_of c l))) (tags h (set_of c l)))
-    go true e = sym (held-without n l (tags h (set_of c l)))
+    go : (b : Bool) → eqb (set_number c l) (set_number c n) ≡ b
+        → (not (same_line n l) && is_held l (tags h (set_number c l))) ≡ is_held l (cond b (without_line n (tags h (set_number c l))) (tags h (set_number c l)))
+    go true e = sym (held-without n l (tags h (set_number c l)))
     go false e =
-        ap (λ b. not b && is_held l (tags h (set_of c l)))
-        (false_from_ne_true _ (λ same. false≢true (sym e ∙ eq-eqb (set_of c l) (set_of c n) (ap (set_of c) (sym (line_eq n l same))))))
+        ap (λ b. not b && is_held l (tags h (set_number c l)))
+        (false_from_ne_true _ (λ same. false≢true (sym e ∙ eq-eqb (set_number c l) (set_number c n) (ap (set_number c) (sym (line_eq n l same))))))
 
 other-shared : (c : Shape) (tags : Tags) (n : Line) (h : ℕ) (l : Line)
-    → is_held l (tags h (set_of c l)) ≡ is_held l (cond (eqb (set_of c l) (set_of c n)) (shared_line n (tags h (set_of c l))) (tags h (set_of c l)))
+    → is_held l (tags h (set_number c l)) ≡ is_held l (cond (eqb (set_number c l) (set_number c n)) (shared_line n (tags h (set_number c l))) (tags h (set_number c l)))
 other-shared c tags n h l =
-    cond_both (eqb (set_of c l) (set_of c n)) (shared_line n (tags h (set_of c l))) (tags h (set_of c l)) (λ ts. is_held l (tags h (set_of c l)) ≡ is_held l ts)
-    (λ _. sym (held-map (shared_at n) (share_line n) l (tags h (set_of c l)))) (λ _. refl)
+    cond_both (eqb (set_number c l) (set_number c n)) (shared_line n (tags h (set_number c l))) (tags h (set_number c l)) (λ ts. is_held l (tags h (set_number c l)) ≡ is_held l ts)
+    (λ _. sym (held-map (shared_at n) (share_line n) l (tags h (set_number c l)))) (λ _. refl)
 
 cond-same : {A : Type 0} (b : Bool) (x : A) → x ≡ cond b x x
 cond-same true x = refl
@@ -440,10 +440,10 @@ cond-same false x = refl
 
 module _ (c : Shape) (tags : Tags) (n : Line) (h : ℕ) (l : Line) (some : 0 < c.ways) (fits : TagsFit c tags) where
   abbrev mine : List Tag
-  mine = tags h (set_of c l)
+  mine = tags h (set_number c l)
 
   abbrev here : Bool
-  here = eqb (set_of c l) (set_of c n)
+  here = eqb (set_number c l) (set_number c n)
 
   -- hart h loads or stores to line n
   own-load-bal : (x : Option Mesi) → held_state c tags h n ≡ x
@@ -478,8 +478,8 @@ module _ (c : Shape) (tags : Tags) (n : Line) (h : ℕ) (l : Line) (some : 0 < c
     where
       go : (b : Bool) → same_line n l ≡ b → is_held l mine ≡ (not b && is_held l mine)
       go true e =
-          let none : is_held n (tags h (set_of c n)) ≡ false = fits.owners.alone i h (set_of c n) n u (eqb-false i h ne) owned in
-          subst (λ k. is_held k (tags h (set_of c k)) ≡ false) (line_eq n l e) none
+          let none : is_held n (tags h (set_number c n)) ≡ false = fits.owners.alone i h (set_number c n) n u (eqb-false i h ne) owned in
+          subst (λ k. is_held k (tags h (set_number c k)) ≡ false) (line_eq n l e) none
       go false e = refl
 
   other-store-bal : (i : ℕ) → h < c.holders → eqb i h ≡ false → eqb h i ≡ false → (x : Option Mesi) → held_state c tags i n ≡ x
@@ -493,7 +493,7 @@ module _ (c : Shape) (tags : Tags) (n : Line) (h : ℕ) (l : Line) (some : 0 < c
       (subst (Bal h l (others_notes leave_notes c tags i n) (is_held l mine)) (other-without c tags n h l) (drops-bal c tags i n h l u en))
       (fill-other-bal c tags i n h l (is_held l (cond here (without_line n mine) mine)) ne)
 
-  store-bal : (i : ℕ) → h < c.holders → Bal h l (store_notes c tags i n (held_state c tags i n)) (is_held l mine) (is_held l (after_store c tags i n h (set_of c l)))
+  store-bal : (i : ℕ) → h < c.holders → Bal h l (store_notes c tags i n (held_state c tags i n)) (is_held l mine) (is_held l (after_store c tags i n h (set_number c l)))
   store-bal i u = go (eqb h i) refl
     where
       go : (b : Bool) → eqb h i ≡ b
@@ -503,7 +503,7 @@ module _ (c : Shape) (tags : Tags) (n : Line) (h : ℕ) (l : Line) (some : 0 < c
           (own-store-bal (held_state c tags h n) refl)
       go false e = other-store-bal i u (ne_eqb i h (λ same. eqb-false h i e (sym same))) e (held_state c tags i n) refl
 
-  load-bal : (i : ℕ) → Bal h l (load_notes c tags i n (held_state c tags i n)) (is_held l mine) (is_held l (after_load c tags i n h (set_of c l)))
+  load-bal : (i : ℕ) → Bal h l (load_notes c tags i n (held_state c tags i n)) (is_held l mine) (is_held l (after_load c tags i n h (set_number c l)))
   load-bal i = go (eqb h i) refl
     where
       go : (b : Bool) → eqb h i ≡ b
@@ -516,12 +516,12 @@ module _ (c : Shape) (tags : Tags) (n : Line) (h : ℕ) (l : Line) (some : 0 < c
       go false e = other-load-bal i (ne_eqb i h (λ same. eqb-false h i e (sym same))) (held_state c tags i n)
 
 pub use-bal : (c : Shape) (tags : Tags) (i : ℕ) (u : Option LineUse) (h : ℕ) (l : Line) → 0 < c.ways → TagsFit c tags → h < c.holders
-    → Bal h l (use_notes c tags i u) (is_held l (tags h (set_of c l))) (is_held l (after_use c tags i u h (set_of c l)))
+    → Bal h l (use_notes c tags i u) (is_held l (tags h (set_number c l))) (is_held l (after_use c tags i u h (set_number c l)))
 use-bal c tags i None h l some fits below = bal-empty h l _ _ refl
 use-bal c tags i (Some u) h l some fits below = go u.stores
   where
     go : (b : Bool) → Bal h l (cond b (store_notes c tags i u.line (held_state c tags i u.line)) (load_notes c tags i u.line (held_state c tags i u.line)))
-        (is_held l (tags h (set_of c l))) (is_held l (cond b (after_store c tags i u.line) (after_load c tags i u.line) h (set_of c l)))
+        (is_held l (tags h (set_number c l))) (is_held l (cond b (after_store c tags i u.line) (after_load c tags i u.line) h (set_number c l)))
     go true = store-bal c tags u.line h l some fits i below
     go false = load-bal c tags u.line h l some fits i
 
@@ -531,13 +531,13 @@ merge-bal : (h : ℕ) (l : Line) (j : ℕ) (n : Line) (b : Bool) → Bal h l (no
 merge-bal h l j n b = bal-none h l (note_of Kind_is.Merge j n ∷ []) b refl refl refl
 
 commit-counts : (c : Shape) (tags : Tags) (j : ℕ) (lines : List Line) (h : ℕ) (l : Line) → h < c.holders → AreDistinct lines
-    → Bal h l (commit_notes c tags j lines) (is_held l (tags h (set_of c l))) (not (names lines l) && is_held l (tags h (set_of c l)))
+    → Bal h l (commit_notes c tags j lines) (is_held l (tags h (set_number c l))) (not (names lines l) && is_held l (tags h (set_number c l)))
 commit-counts c tags j [] h l u o = bal-empty h l _ _ refl
 commit-counts c tags j (n ∷ lines) h l u o =
     go (same_line n l) refl (all-drops-bal c tags n h l u) (commit-counts c tags j lines h l u o.1)
   where
     held : Bool
-    held = is_held l (tags h (set_of c l))
+    held = is_held l (tags h (set_number c l))
 
     -- the notes of later lines are about other lines, where this one is l
     go : (b : Bool) → same_line n l ≡ b → Bal h l (all_notes leave_notes c tags n) held (not (same_line n l) && held)
@@ -558,9 +558,9 @@ commit-counts c tags j (n ∷ lines) h l u o =
         (bal-then h l (note_of Kind_is.Merge j n ∷ []) (commit_notes c tags j lines) held held (not (names lines l) && held) (merge-bal h l j n held) y)
 
 pub commit-bal : (c : Shape) (tags : Tags) (j : ℕ) (lines : List Line) (h : ℕ) (l : Line) → h < c.holders → AreDistinct lines
-    → Bal h l (commit_notes c tags j lines) (is_held l (tags h (set_of c l))) (is_held l (after_commit tags lines h (set_of c l)))
+    → Bal h l (commit_notes c tags j lines) (is_held l (tags h (set_number c l))) (is_held l (after_commit tags lines h (set_number c l)))
 commit-bal c tags j lines h l u o =
-    bal-still-after (commit_notes c tags j lines) (sym (held-filter (λ k. not (names lines k)) l (tags h (set_of c l)))) (commit-counts c tags j lines h l u o)
+    bal-still-after (commit_notes c tags j lines) (sym (held-filter (λ k. not (names lines k)) l (tags h (set_number c l)))) (commit-counts c tags j lines h l u o)
   where
     bal-still-after : (ns : List Note) {a b c : Bool} → b ≡ c → Bal h l ns a b → Bal h l ns a c
     bal-still-after ns {a} e x = subst (Bal h l ns a) e x

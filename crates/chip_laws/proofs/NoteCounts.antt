@@ -4,7 +4,7 @@ use Rattle.std.proofs.lemmas.Bool.{cond_both, cases_eq}
 use Rattle.conda_base.specs.declared.Line.{Line}
 use Rattle.conda_base.specs.declared.Mesi.{Mesi}
 use Rattle.conda_base.specs.declared.Mesi.TheVariants.{M, E, S}
-use Rattle.line_memory.specs.Tags.{Tag, Tags, Shape, set_of, held_state, each_below}
+use Rattle.line_memory.specs.Tags.{Tag, Tags, Shape, set_number, held_state, each_below}
 use Rattle.offload_calls.specs.LineUses.{LineUse}
 use Rattle.traffic_trace.specs.declared.note.Kind.{Kind}
 use Rattle.traffic_trace.specs.declared.note.Kind.TheVariants as Kind_is
@@ -113,9 +113,9 @@ pub record SkipsHarts (q : Note → Bool) : Type 0 where
 
 fill-none : (q : Note → Bool) → SkipsHarts q → (c : Shape) (tags : Tags) (h : ℕ) (l : Line) → notes_that q (fill_notes c tags h l) ≡ 0
 fill-none q s c tags h l =
-    let room : notes_that q (room_notes c.ways h (tags h (set_of c l))) ≡ 0 = room-none q s.back s.evict c.ways h (tags h (set_of c l)) in
+    let room : notes_that q (room_notes c.ways h (tags h (set_number c l))) ≡ 0 = room-none q s.back s.evict c.ways h (tags h (set_number c l)) in
     let fill : notes_that q (note_of Kind_is.Fill h l ∷ []) ≡ 0 = skip-one q Kind_is.Fill h l s.fill in
-    let both = that-append q (room_notes c.ways h (tags h (set_of c l))) (note_of Kind_is.Fill h l ∷ []) in omega arith
+    let both = that-append q (room_notes c.ways h (tags h (set_number c l))) (note_of Kind_is.Fill h l ∷ []) in omega arith
 
 then-none : (q : Note → Bool) (xs ys : List Note) → notes_that q xs ≡ 0 → notes_that q ys ≡ 0 → notes_that q (xs ++ ys) ≡ 0
 then-none q xs ys x y = let both = that-append q xs ys in omega arith

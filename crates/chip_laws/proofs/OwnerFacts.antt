@@ -11,7 +11,7 @@ use Rattle.chip_laws.specs.Rules.{World, flush_line}
 use Rattle.chip_laws.specs.Worlds.{tags_after, start_world}
 use Rattle.conda_base.specs.declared.Mesi.{Mesi}
 use Rattle.conda_base.specs.declared.Mesi.TheVariants.{M, E, S}
-use Rattle.line_memory.specs.Tags.{Tag, Tags, without_line, cleaned_state, cleaned_at, Shape, set_of, held_state}
+use Rattle.line_memory.specs.Tags.{Tag, Tags, without_line, cleaned_state, cleaned_at, Shape, set_number, held_state}
 use Rattle.conda_base.specs.LineLists.{same_line}
 use Rattle.offload_calls.specs.LineUses.{LineUse}
 use Rattle.conda_base.proofs.LineListLemmas.{line_eq, same_line-refl}
@@ -199,10 +199,10 @@ alone_less l xs ys us vs a b h own = go (cases_Bool (is_owned l xs))
 
 -- the other holders have no copy
 none_elsewhere : (c : Shape) (tags : Tags) (h : ℕ) (l : Line) (k : ℕ) → is_held_elsewhere c tags h l ≡ false → k < c.holders → k ≢ h
-    → is_held l (tags k (set_of c l)) ≡ false
+    → is_held l (tags k (set_number c l)) ≡ false
 none_elsewhere c tags h l k e below other =
-    subst (λ b. (not b && is_held l (tags k (set_of c l))) ≡ false) (ne_eqb k h other)
-    (none_at c.holders k (λ i. not (eqb i h) && is_held l (tags i (set_of c l))) e below)
+    subst (λ b. (not b && is_held l (tags k (set_number c l))) ≡ false) (ne_eqb k h other)
+    (none_at c.holders k (λ i. not (eqb i h) && is_held l (tags i (set_number c l))) e below)
 
 -- an edit of one set's lists: each list once, and alone in that set
 one_set : (c : Shape) (tags : Tags) (h set : ℕ) (own other : List Tag → List Tag) → HaveOwners c tags
@@ -262,7 +262,7 @@ store_owners c tags h n o =
     (λ k i l u ne. alone_less l (tags k set) (tags i set) _ _ (without_less n l (tags k set) (o.once k set)) (without_less n l (tags i set) (o.once i set)) (o.alone k i set l u ne))
   where
     set : ℕ
-    set = set_of c n
+    set = set_number c n
 
 -- a held line in front is as it was
 front_same : (ways : ℕ) (n : Line) (m : Mesi) (ts : List Tag) → lookup n ts ≡ Some m → Less n ts (put_front ways n m ts)
@@ -283,7 +283,7 @@ load_owners : (c : Shape) (tags : Tags) (h : ℕ) (n : Line) → HaveOwners c ta
 load_owners c tags h n o = go (held_state c tags h n) refl
   where
     set : ℕ
-    set = set_of c n
+    set = set_number c n
 
     once_h : AreOnce (tags h set)
     once_h = o.once h set

@@ -8,7 +8,7 @@ use Rattle.set_assoc.specs.Entries.{lookup}
 use Rattle.conda_base.specs.declared.Line.{Line}
 use Rattle.conda_base.specs.declared.Mesi.{Mesi}
 use Rattle.conda_base.specs.declared.actor.Actor.{Actor}
-use Rattle.line_memory.specs.Tags.{Tag, Tags, Shape, set_of, held_state}
+use Rattle.line_memory.specs.Tags.{Tag, Tags, Shape, set_number, held_state}
 use Rattle.line_memory.specs.Owners.{HasSingleOwners}
 use Rattle.line_memory.proofs.MemberLemmas.{pairs_nil}
 use Rattle.chip_laws.specs.Design.{Design, hart_shape}
@@ -45,18 +45,18 @@ once_pairs [] once = pairs_nil Differ
 once_pairs (tag ∷ tags) once = AllPairs-cons Differ tag tags (apart_from tag.0 tags once.0) (once_pairs tags once.1)
 
 -- where lines of other sets are not there, each line is of this set
-in_set : (shape : Shape) (set : ℕ) (tags : List Tag) → ((l : Line) → eqb set (set_of shape l) ≡ false → is_held l tags ≡ false)
-    → All (λ (tag : Tag). set_of shape tag.0 ≡ set) tags
-in_set shape set [] none = All-nil (λ (tag : Tag). set_of shape tag.0 ≡ set)
+in_set : (shape : Shape) (set : ℕ) (tags : List Tag) → ((l : Line) → eqb set (set_number shape l) ≡ false → is_held l tags ≡ false)
+    → All (λ (tag : Tag). set_number shape tag.0 ≡ set) tags
+in_set shape set [] none = All-nil (λ (tag : Tag). set_number shape tag.0 ≡ set)
 in_set shape set (tag ∷ tags) none =
-    All-cons (λ (tag : Tag). set_of shape tag.0 ≡ set) tag tags (here (cases_eq set (set_of shape tag.0)))
+    All-cons (λ (tag : Tag). set_number shape tag.0 ≡ set) tag tags (here (cases_eq set (set_number shape tag.0)))
     (in_set shape set tags (λ l out. rest l (none l out)))
   where
-    here : ((set ≡ set_of shape tag.0) ⊎ (set ≡ set_of shape tag.0 → ⊥)) → set_of shape tag.0 ≡ set
+    here : ((set ≡ set_number shape tag.0) ⊎ (set ≡ set_number shape tag.0 → ⊥)) → set_number shape tag.0 ≡ set
     here (inl e) = sym e
     here (inr ne) =
         absurd (true≢false (sym (ap is_some (cond-true (eqb tag.0.0 tag.0.0) (Some tag.1) (lookup tag.0 tags) (eq-eqb tag.0.0 tag.0.0 refl)))
-        ∙ none tag.0 (ne_eqb set (set_of shape tag.0) ne)))
+        ∙ none tag.0 (ne_eqb set (set_number shape tag.0) ne)))
 
     rest : (l : Line) → is_held l (tag ∷ tags) ≡ false → is_held l tags ≡ false
     rest l = go (eqb tag.0.0 l.0)
@@ -74,7 +74,7 @@ single_owners shape tags fit = record {
   once = λ h set. once_pairs (tags h set) (fit.owners.once h set);
   placed = λ h set. in_set shape set (tags h set) (λ l out. fit.placed h set l out);
   alone = λ l h k below other owned.
-      none_is (held_state shape tags k l) (fit.owners.alone h k (set_of shape l) l below (λ same. other (sym same)) owned);
+      none_is (held_state shape tags k l) (fit.owners.alone h k (set_number shape l) l below (λ same. other (sym same)) owned);
 }
 
 -- ---- every world that is reached

@@ -6,8 +6,8 @@ use Rattle.set_assoc.specs.Entries.{lookup}
 use Rattle.conda_base.specs.declared.Line.{Line}
 use Rattle.conda_base.specs.declared.Mesi.{Mesi}
 use Rattle.conda_base.specs.declared.Mesi.TheVariants.{M, E, S}
-use Rattle.line_memory.specs.Tags.{Tag, Tags, is_modified, without_line, cleaned_state, cleaned_at, modified, each_below, Shape, set_of, held_state, dirty_lines}
-use Rattle.conda_base.specs.LineLists.{names, same_line, list_of}
+use Rattle.line_memory.specs.Tags.{Tag, Tags, is_modified, without_line, cleaned_state, cleaned_at, modified, each_below, Shape, set_number, held_state, dirty_lines}
+use Rattle.conda_base.specs.LineLists.{names, same_line, line_list}
 use Rattle.offload_calls.specs.LineUses.{LineUse, stored_line}
 use Rattle.conda_base.proofs.LineListLemmas.{line_eq, names-append}
 use Rattle.line_memory.specs.Access.{is_held_elsewhere, put_front, shared_at, loaded_state, list_beside_load, after_load, after_store, after_commit, cleaned_tag, after_lock}
@@ -117,14 +117,14 @@ put ways l n m ts h k =
 
 load_keeps : (c : Shape) (tags : Tags) (h : ℕ) (n l : Line) (k s : ℕ) → NoM l (tags k s) → NoM l (after_load c tags h n k s)
 load_keeps c tags h n l k s d =
-    cond_both (eqb s (set_of c n)) _ (tags k s) (NoM l)
+    cond_both (eqb s (set_number c n)) _ (tags k s) (NoM l)
     (λ e. cond_both (eqb k h) _ _ (NoM l)
-    (λ f. mine (held_state c tags h n) refl (subst (λ i. NoM l (tags i (set_of c n))) (eqb-true k h f) (subst (λ i. NoM l (tags k i)) (eqb-true s (set_of c n) e) d)))
+    (λ f. mine (held_state c tags h n) refl (subst (λ i. NoM l (tags i (set_number c n))) (eqb-true k h f) (subst (λ i. NoM l (tags k i)) (eqb-true s (set_number c n) e) d)))
     (λ _. other (held_state c tags h n)))
     (λ _. d)
   where
-    mine : (o : Option Mesi) → held_state c tags h n ≡ o → NoM l (tags h (set_of c n)) → NoM l (put_front c.ways n (loaded_state c tags h n o) (tags k s))
-    mine (Some m) e own = put c.ways l n m (tags k s) (held_m l n (tags h (set_of c n)) m e own) d
+    mine : (o : Option Mesi) → held_state c tags h n ≡ o → NoM l (tags h (set_number c n)) → NoM l (put_front c.ways n (loaded_state c tags h n o) (tags k s))
+    mine (Some m) e own = put c.ways l n m (tags k s) (held_m l n (tags h (set_number c n)) m e own) d
     mine None e own =
         put c.ways l n (cond (is_held_elsewhere c tags h n) S E) (tags k s)
         (cond_both (is_held_elsewhere c tags h n) S E (λ m. NotM l (n, m)) (λ _. refl) (λ _. refl)) d
@@ -135,18 +135,18 @@ load_keeps c tags h n l k s d =
 
 store_keeps : (c : Shape) (tags : Tags) (h : ℕ) (n l : Line) (k s : ℕ) → same_line n l ≡ false → NoM l (tags k s) → NoM l (after_store c tags h n k s)
 store_keeps c tags h n l k s ne d =
-    cond_both (eqb s (set_of c n)) _ (tags k s) (NoM l)
+    cond_both (eqb s (set_number c n)) _ (tags k s) (NoM l)
     (λ _. cond_both (eqb k h) _ _ (NoM l)
     (λ _. put c.ways l n M (tags k s) ne d) (λ _. filtered (λ (t : Tag). not (same_line t.0 n)) l (tags k s) d))
     (λ _. d)
 
-access_keeps : (c : Shape) (tags : Tags) (h : ℕ) (n l : Line) (b : Bool) (k s : ℕ) → names (list_of (cond b (Some n) None)) l ≡ false
+access_keeps : (c : Shape) (tags : Tags) (h : ℕ) (n l : Line) (b : Bool) (k s : ℕ) → names (line_list (cond b (Some n) None)) l ≡ false
     → NoM l (tags k s) → NoM l (cond b (after_store c tags h n) (after_load c tags h n) k s)
 access_keeps c tags h n l true k s out d = store_keeps c tags h n l k s (or_parts (same_line n l) false out).0 d
 access_keeps c tags h n l false k s out d = load_keeps c tags h n l k s d
 
 -- an access that doesn't store to a line makes no M of it
-pub use_keeps : (c : Shape) (tags : Tags) (h : ℕ) (u : Option LineUse) (l : Line) (k s : ℕ) → names (list_of (stored_line u)) l ≡ false
+pub use_keeps : (c : Shape) (tags : Tags) (h : ℕ) (u : Option LineUse) (l : Line) (k s : ℕ) → names (line_list (stored_line u)) l ≡ false
     → NoM l (tags k s) → NoM l (after_use c tags h u k s)
 use_keeps c tags h None l k s out d = d
 use_keeps c tags h (Some u) l k s out d = access_keeps c tags h u.line l u.stores k s out d

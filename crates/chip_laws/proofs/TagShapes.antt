@@ -10,7 +10,7 @@ use Rattle.chip_laws.specs.Rules.{World, writes_of, flush_line}
 use Rattle.chip_laws.specs.Worlds.{tags_after, start_world}
 use Rattle.conda_base.specs.declared.Mesi.{Mesi}
 use Rattle.conda_base.specs.declared.Mesi.TheVariants.{M}
-use Rattle.line_memory.specs.Tags.{Tag, Tags, without_line, cleaned_at, Shape, set_of, held_state}
+use Rattle.line_memory.specs.Tags.{Tag, Tags, without_line, cleaned_at, Shape, set_number, held_state}
 use Rattle.conda_base.specs.LineLists.{names, same_line}
 use Rattle.offload_calls.specs.LineUses.{LineUse}
 use Rattle.conda_base.proofs.LineListLemmas.{line_eq}
@@ -25,7 +25,7 @@ use Rattle.chip_laws.specs.Uses.{after_use, flush_after}
 pub record TagsFit (c : Shape) (tags : Tags) : Type 0 where
   pub owners : HaveOwners c tags
   pub short : (k s : ℕ) → length (tags k s) ≤ c.ways
-  pub placed : (k s : ℕ) (l : Line) → eqb s (set_of c l) ≡ false → is_held l (tags k s) ≡ false
+  pub placed : (k s : ℕ) (l : Line) → eqb s (set_number c l) ≡ false → is_held l (tags k s) ≡ false
 
 le_of : {a b n : ℕ} → a ≡ b → b ≤ n → a ≤ n
 le_of e h = omega arith
@@ -62,10 +62,10 @@ use-short : (c : Shape) (tags : Tags) (h : ℕ) (u : Option LineUse) → ((k s :
 use-short c tags h None short k s = short k s
 use-short c tags h (Some u) short k s =
     cond_both u.stores (after_store c tags h u.line) (after_load c tags h u.line) (λ (new : Tags). length (new k s) ≤ c.ways)
-    (λ _. short-set c tags h (set_of c u.line) (put_front c.ways u.line M) (without_line u.line) short (front-short c.ways u.line M)
+    (λ _. short-set c tags h (set_number c u.line) (put_front c.ways u.line M) (without_line u.line) short (front-short c.ways u.line M)
     (length-filter_le (λ (t : Tag). not (same_line t.0 u.line))) k s)
     (λ _. let x : Option Mesi = held_state c tags h u.line in
-    short-set c tags h (set_of c u.line) (put_front c.ways u.line (loaded_state c tags h u.line x)) (list_beside_load u.line x) short
+    short-set c tags h (set_number c u.line) (put_front c.ways u.line (loaded_state c tags h u.line x)) (list_beside_load u.line x) short
     (front-short c.ways u.line (loaded_state c tags h u.line x)) (beside-short u.line x) k s)
 
 took-short : (p : Design) (w : World) (e : Entry) → ((k s : ℕ) → length (w.tags k s) ≤ p.config.hart_ways) → (k s : ℕ) → length (tags_after p w e k s) ≤ p.config.hart_ways
@@ -85,20 +85,20 @@ took-short p w (Kern j) short k s = short k s
 
 module _ (c : Shape) (tags : Tags) (fits : TagsFit c tags) where
   placed-set : (h : ℕ) (n : Line) (own other : List Tag → List Tag)
-      → ((k : ℕ) (l : Line) → same_line n l ≡ false → Less l (tags k (set_of c n)) (own (tags k (set_of c n))))
-      → ((k : ℕ) (l : Line) → same_line n l ≡ false → Less l (tags k (set_of c n)) (other (tags k (set_of c n))))
-      → (k s : ℕ) (l : Line) → eqb s (set_of c l) ≡ false → is_held l (changed_set h (set_of c n) own other tags k s) ≡ false
+      → ((k : ℕ) (l : Line) → same_line n l ≡ false → Less l (tags k (set_number c n)) (own (tags k (set_number c n))))
+      → ((k : ℕ) (l : Line) → same_line n l ≡ false → Less l (tags k (set_number c n)) (other (tags k (set_number c n))))
+      → (k s : ℕ) (l : Line) → eqb s (set_number c l) ≡ false → is_held l (changed_set h (set_number c n) own other tags k s) ≡ false
   placed-set h n own other mine theirs k s l out =
-      cond_both (eqb s (set_of c n)) _ (tags k s) (λ ts. is_held l ts ≡ false)
-      (λ e. let at : s ≡ set_of c n = eqb-true s (set_of c n) e in
-      let apart : same_line n l ≡ false = false_from_ne_true _ (λ same. false≢true (sym out ∙ eq-eqb s (set_of c l) (at ∙ ap (set_of c) (line_eq n l same)))) in
-      let before : is_held l (tags k (set_of c n)) ≡ false = subst (λ v. is_held l (tags k v) ≡ false) at (fits.placed k s l out) in
+      cond_both (eqb s (set_number c n)) _ (tags k s) (λ ts. is_held l ts ≡ false)
+      (λ e. let at : s ≡ set_number c n = eqb-true s (set_number c n) e in
+      let apart : same_line n l ≡ false = false_from_ne_true _ (λ same. false≢true (sym out ∙ eq-eqb s (set_number c l) (at ∙ ap (set_number c) (line_eq n l same)))) in
+      let before : is_held l (tags k (set_number c n)) ≡ false = subst (λ v. is_held l (tags k v) ≡ false) at (fits.placed k s l out) in
       subst (λ v. is_held l (cond (eqb k h) (own (tags k v)) (other (tags k v))) ≡ false) (sym at)
-      (cond_both (eqb k h) (own (tags k (set_of c n))) (other (tags k (set_of c n))) (λ ts. is_held l ts ≡ false)
+      (cond_both (eqb k h) (own (tags k (set_number c n))) (other (tags k (set_number c n))) (λ ts. is_held l ts ≡ false)
       (λ _. (mine k l apart).held before) (λ _. (theirs k l apart).held before)))
       (λ _. fits.placed k s l out)
 
-  use-placed : (h : ℕ) (u : Option LineUse) (k s : ℕ) (l : Line) → eqb s (set_of c l) ≡ false → is_held l (after_use c tags h u k s) ≡ false
+  use-placed : (h : ℕ) (u : Option LineUse) (k s : ℕ) (l : Line) → eqb s (set_number c l) ≡ false → is_held l (after_use c tags h u k s) ≡ false
   use-placed h None k s l out = fits.placed k s l out
   use-placed h (Some u) k s l out =
       cond_both u.stores (after_store c tags h u.line) (after_load c tags h u.line) (λ (new : Tags). is_held l (new k s) ≡ false)
@@ -111,13 +111,13 @@ module _ (c : Shape) (tags : Tags) (fits : TagsFit c tags) where
       (λ i m apart. beside_less u.line m x (tags i set)) k s l out)
     where
       set : ℕ
-      set = set_of c u.line
+      set = set_number c u.line
 
-  flush-placed : (x : Option Line) (k s : ℕ) (l : Line) → eqb s (set_of c l) ≡ false → is_held l (flush_after tags x k s) ≡ false
+  flush-placed : (x : Option Line) (k s : ℕ) (l : Line) → eqb s (set_number c l) ≡ false → is_held l (flush_after tags x k s) ≡ false
   flush-placed None k s l out = fits.placed k s l out
   flush-placed (Some n) k s l out = (less_map (cleaned_at n) (clean_line n) (clean_one_owner n) l (tags k s)).held (fits.placed k s l out)
 
-took-placed : (p : Design) (w : World) (e : Entry) → TagsFit (hart_shape p) w.tags → (k s : ℕ) (l : Line) → eqb s (set_of (hart_shape p) l) ≡ false → is_held l (tags_after p w e k s) ≡ false
+took-placed : (p : Design) (w : World) (e : Entry) → TagsFit (hart_shape p) w.tags → (k s : ℕ) (l : Line) → eqb s (set_number (hart_shape p) l) ≡ false → is_held l (tags_after p w e k s) ≡ false
 took-placed p w (Step h) f k s l out = use-placed (hart_shape p) w.tags f h (hart_use p w h) k s l out
 took-placed p w (Commit j n c) f k s l out =
     (less_filter (λ (t : Tag). not (names (writes_of p (w.seats j).opening) t.0)) l (w.tags k s) (f.owners.once k s)).held (f.placed k s l out)

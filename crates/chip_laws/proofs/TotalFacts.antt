@@ -15,8 +15,8 @@ use Rattle.chip_laws.specs.Rules.{World, Opening, opening_end, writes_of, is_con
 use Rattle.chip_laws.specs.Worlds.{tags_after, happens, start_world, world_from, world}
 use Rattle.conda_base.specs.declared.Mesi.{Mesi}
 use Rattle.conda_base.specs.declared.Mesi.TheVariants.{M, E, S}
-use Rattle.line_memory.specs.Tags.{Tag, Tags, without_line, cleaned_at, Shape, set_of, held_state, each_below}
-use Rattle.conda_base.specs.LineLists.{names, same_line, list_of}
+use Rattle.line_memory.specs.Tags.{Tag, Tags, without_line, cleaned_at, Shape, set_number, held_state, each_below}
+use Rattle.conda_base.specs.LineLists.{names, same_line, line_list}
 use Rattle.offload_calls.specs.LineUses.{LineUse}
 use Rattle.conda_base.proofs.LineListLemmas.{line_eq, same_line-eq}
 use Rattle.try_runs.proofs.LineFacts.{AreDistinct}
@@ -248,7 +248,7 @@ drop-count n k (Some S) = refl
 abbrev other_drops : Shape → Tags → ℕ → Line → ℕ → ℕ
 other_drops c tags i n k = count Kind_is.Drop (cond (eqb k i) [] (leave_notes n k (held_state c tags k n)))
 
-drops-at : (c : Shape) (tags : Tags) (i : ℕ) (n : Line) (k : ℕ) → eqb k i ≡ false → other_drops c tags i n k ≡ one (is_held n (tags k (set_of c n)))
+drops-at : (c : Shape) (tags : Tags) (i : ℕ) (n : Line) (k : ℕ) → eqb k i ≡ false → other_drops c tags i n k ≡ one (is_held n (tags k (set_number c n)))
 drops-at c tags i n k e = ap (λ b. count Kind_is.Drop (cond b [] (leave_notes n k (held_state c tags k n)))) e ∙ drop-count n k (held_state c tags k n)
 
 drops-self : (c : Shape) (tags : Tags) (i : ℕ) (n : Line) → other_drops c tags i n i ≡ 0
@@ -267,26 +267,26 @@ downs-total : (q : Note → Bool) → Skips q Kind_is.Back → Skips q Kind_is.D
 downs-total q s t c tags i n = others-none q down_notes (down-none q s t) c tags i n
 
 abbrev evicted : Shape → Tags → ℕ → Line → ℕ
-evicted c tags i n = count Kind_is.Evict (room_notes c.ways i (tags i (set_of c n)))
+evicted c tags i n = count Kind_is.Evict (room_notes c.ways i (tags i (set_number c n)))
 
 fill-fills : (c : Shape) (tags : Tags) (i : ℕ) (n : Line) → count Kind_is.Fill (fill_notes c tags i n) ≡ 1
 fill-fills c tags i n =
-    let room = room-none (is_kind Kind_is.Fill) (skip _ Kind_is.Back (λ k m. refl)) (skip _ Kind_is.Evict (λ k m. refl)) c.ways i (tags i (set_of c n)) in
-    let both : count Kind_is.Fill (fill_notes c tags i n) ≡ count Kind_is.Fill (room_notes c.ways i (tags i (set_of c n))) + 1 =
-    that-append (is_kind Kind_is.Fill) (room_notes c.ways i (tags i (set_of c n))) (note_of Kind_is.Fill i n ∷ []) in
+    let room = room-none (is_kind Kind_is.Fill) (skip _ Kind_is.Back (λ k m. refl)) (skip _ Kind_is.Evict (λ k m. refl)) c.ways i (tags i (set_number c n)) in
+    let both : count Kind_is.Fill (fill_notes c tags i n) ≡ count Kind_is.Fill (room_notes c.ways i (tags i (set_number c n))) + 1 =
+    that-append (is_kind Kind_is.Fill) (room_notes c.ways i (tags i (set_number c n))) (note_of Kind_is.Fill i n ∷ []) in
     omega arith
 
 fill-evicts : (c : Shape) (tags : Tags) (i : ℕ) (n : Line) → count Kind_is.Evict (fill_notes c tags i n) ≡ evicted c tags i n
 fill-evicts c tags i n =
     let both : count Kind_is.Evict (fill_notes c tags i n) ≡ evicted c tags i n + 0 =
-    that-append (is_kind Kind_is.Evict) (room_notes c.ways i (tags i (set_of c n))) (note_of Kind_is.Fill i n ∷ []) in
+    that-append (is_kind Kind_is.Evict) (room_notes c.ways i (tags i (set_number c n))) (note_of Kind_is.Fill i n ∷ []) in
     omega arith
 
 fill-drops : (c : Shape) (tags : Tags) (i : ℕ) (n : Line) → count Kind_is.Drop (fill_notes c tags i n) ≡ 0
 fill-drops c tags i n =
-    let room = room-none (is_kind Kind_is.Drop) (skip _ Kind_is.Back (λ k m. refl)) (skip _ Kind_is.Evict (λ k m. refl)) c.ways i (tags i (set_of c n)) in
-    let both : count Kind_is.Drop (fill_notes c tags i n) ≡ count Kind_is.Drop (room_notes c.ways i (tags i (set_of c n))) + 0 =
-    that-append (is_kind Kind_is.Drop) (room_notes c.ways i (tags i (set_of c n))) (note_of Kind_is.Fill i n ∷ []) in
+    let room = room-none (is_kind Kind_is.Drop) (skip _ Kind_is.Back (λ k m. refl)) (skip _ Kind_is.Evict (λ k m. refl)) c.ways i (tags i (set_number c n)) in
+    let both : count Kind_is.Drop (fill_notes c tags i n) ≡ count Kind_is.Drop (room_notes c.ways i (tags i (set_number c n))) + 0 =
+    that-append (is_kind Kind_is.Drop) (room_notes c.ways i (tags i (set_number c n))) (note_of Kind_is.Fill i n ∷ []) in
     omega arith
 
 then-count : (q : Note → Bool) (xs ys : List Note) (a b : ℕ) → notes_that q xs ≡ a → notes_that q ys ≡ b → notes_that q (xs ++ ys) ≡ a + b
@@ -296,7 +296,7 @@ then-count q xs ys a b x y = that-append q xs ys ∙ (λ i. x i + y i)
 
 module _ (c : Shape) (tags : Tags) (i : ℕ) (n : Line) (some : 0 < c.ways) (sets : 0 < c.sets) (below : i < c.holders) (fits : TagsFit c tags) where
   abbrev set : ℕ
-  set = set_of c n
+  set = set_number c n
 
   in_sets : set < c.sets
   in_sets = mod-lt n.0 sets
@@ -471,29 +471,29 @@ unfolding named_count
 named_count-nil c tags = sum-none c.holders _ (λ k u. sum-none c.sets _ (λ s v. named-none (tags k s)))
 
 -- a line stands in the list of its set alone
-held-sets : (c : Shape) (tags : Tags) (k : ℕ) (n : Line) → 0 < c.sets → TagsFit c tags → sum_below c.sets (λ s. one (is_held n (tags k s))) ≡ one (is_held n (tags k (set_of c n)))
+held-sets : (c : Shape) (tags : Tags) (k : ℕ) (n : Line) → 0 < c.sets → TagsFit c tags → sum_below c.sets (λ s. one (is_held n (tags k s))) ≡ one (is_held n (tags k (set_number c n)))
 held-sets c tags k n sets fits =
-    sum-ext c.sets _ (λ s. cond (eqb s (set_of c n)) (one (is_held n (tags k (set_of c n)))) 0) (λ s u. each s)
-    ∙ sum-one c.sets (set_of c n) (one (is_held n (tags k (set_of c n)))) (mod-lt n.0 sets)
+    sum-ext c.sets _ (λ s. cond (eqb s (set_number c n)) (one (is_held n (tags k (set_number c n)))) 0) (λ s u. each s)
+    ∙ sum-one c.sets (set_number c n) (one (is_held n (tags k (set_number c n)))) (mod-lt n.0 sets)
   where
-    each : (s : ℕ) → one (is_held n (tags k s)) ≡ cond (eqb s (set_of c n)) (one (is_held n (tags k (set_of c n)))) 0
-    each s = go (eqb s (set_of c n)) refl
+    each : (s : ℕ) → one (is_held n (tags k s)) ≡ cond (eqb s (set_number c n)) (one (is_held n (tags k (set_number c n)))) 0
+    each s = go (eqb s (set_number c n)) refl
       where
-        go : (b : Bool) → eqb s (set_of c n) ≡ b → one (is_held n (tags k s)) ≡ cond b (one (is_held n (tags k (set_of c n)))) 0
-        go true e = ap (λ v. one (is_held n (tags k v))) (eqb-true s (set_of c n) e)
+        go : (b : Bool) → eqb s (set_number c n) ≡ b → one (is_held n (tags k s)) ≡ cond b (one (is_held n (tags k (set_number c n)))) 0
+        go true e = ap (λ v. one (is_held n (tags k v))) (eqb-true s (set_number c n) e)
         go false e = ap one (fits.placed k s n e)
 
 named_count-cons : (c : Shape) (tags : Tags) (n : Line) (lines : List Line) → 0 < c.sets → TagsFit c tags → names lines n ≡ false
-    → named_count c tags (n ∷ lines) ≡ sum_below c.holders (λ k. one (is_held n (tags k (set_of c n)))) + named_count c tags lines
+    → named_count c tags (n ∷ lines) ≡ sum_below c.holders (λ k. one (is_held n (tags k (set_number c n)))) + named_count c tags lines
 unfolding named_count
 named_count-cons c tags n lines sets fits out =
-    sum-ext c.holders _ (λ k. one (is_held n (tags k (set_of c n))) + sum_below c.sets (λ s. named lines (tags k s)))
+    sum-ext c.holders _ (λ k. one (is_held n (tags k (set_number c n))) + sum_below c.sets (λ s. named lines (tags k s)))
     (λ k u. sum-ext c.sets _ (λ s. one (is_held n (tags k s)) + named lines (tags k s)) (λ s v. named-cons n lines (tags k s) (fits.owners.once k s) out)
     ∙ sum-both c.sets (λ s. one (is_held n (tags k s))) (λ s. named lines (tags k s))
     ∙ ap (λ a. a + sum_below c.sets (λ s. named lines (tags k s))) (held-sets c tags k n sets fits))
-    ∙ sum-both c.holders (λ k. one (is_held n (tags k (set_of c n)))) (λ k. sum_below c.sets (λ s. named lines (tags k s)))
+    ∙ sum-both c.holders (λ k. one (is_held n (tags k (set_number c n)))) (λ k. sum_below c.sets (λ s. named lines (tags k s)))
 
-all-drops : (c : Shape) (tags : Tags) (n : Line) → count Kind_is.Drop (all_notes leave_notes c tags n) ≡ sum_below c.holders (λ k. one (is_held n (tags k (set_of c n))))
+all-drops : (c : Shape) (tags : Tags) (n : Line) → count Kind_is.Drop (all_notes leave_notes c tags n) ≡ sum_below c.holders (λ k. one (is_held n (tags k (set_number c n))))
 all-drops c tags n = that-sum (is_kind Kind_is.Drop) c.holders _ ∙ sum-ext c.holders _ _ (λ k u. drop-count n k (held_state c tags k n))
 
 commit-drops : (c : Shape) (tags : Tags) (j : ℕ) (lines : List Line) → 0 < c.sets → TagsFit c tags → AreDistinct lines
@@ -583,7 +583,7 @@ took-total p w (Step h) lim u f = use-total (hart_shape p) w.tags h (hart_use p 
 took-total p w (Commit j n c) lim u f = commit-total (hart_shape p) w.tags j (writes_of p (w.seats j).opening) lim.sets f (writes-distinct p (w.seats j).opening)
 took-total p w (Lock j) lim u f = flush-total (hart_shape p) w.tags (after_lock w.tags) (dirty_of p w) (λ k s. sym (length-map (w.tags k s) cleaned_tag))
 took-total p w (Flush j) lim u f =
-    flush-total (hart_shape p) w.tags (flush_after w.tags (flush_line p w j)) (list_of (flush_line p w j)) (flush_after-length w.tags (flush_line p w j))
+    flush-total (hart_shape p) w.tags (flush_after w.tags (flush_line p w j)) (line_list (flush_line p w j)) (flush_after-length w.tags (flush_line p w j))
 took-total p w (Spec j) lim u f = corefill-total j (filled_of p (w.seats j).opening) (tag_count (hart_shape p) w.tags)
 took-total p w (Waits h) lim u f = total-same [] _ _ refl refl refl refl
 took-total p w (Idle a) lim u f = total-same [] _ _ refl refl refl refl

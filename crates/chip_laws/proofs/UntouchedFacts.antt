@@ -12,7 +12,7 @@ use Rattle.chip_laws.specs.Worlds.{flat_after, changed, told, one_more, seat_aft
 use Rattle.chip_laws.specs.Entries.{is_opening, is_boundary}
 use Rattle.std.specs.List.{slice_get}
 use Rattle.std.specs.Option.{option_map, option_map_or}
-use Rattle.offload_calls.specs.Stores.{has}
+use Rattle.offload_calls.specs.Stores.{is_listed}
 use Rattle.offload_calls.specs.CoreActs.{outside, written}
 use Rattle.conda_base.specs.LineLists.{names, line_at, same_line}
 use Rattle.try_runs.specs.Serial.{AreFresh, IsSerial, try_in}
@@ -164,11 +164,11 @@ knows p s j o op (suc n) none =
 
 -- ---- stores lie on changed lines
 
-names-map : (n : ℕ) (xs : List ℕ) (a : ℕ) → has xs a ≡ true → names (map (line_at n) xs) (line_at n a) ≡ true
+names-map : (n : ℕ) (xs : List ℕ) (a : ℕ) → is_listed xs a ≡ true → names (map (line_at n) xs) (line_at n a) ≡ true
 names-map n [] a h = absurd (false≢true h)
-names-map n (x ∷ xs) a h = go (or_cases (eqb x a) (has xs a) h) (names-map n xs a)
+names-map n (x ∷ xs) a h = go (or_cases (eqb x a) (is_listed xs a) h) (names-map n xs a)
   where
-    go : (eqb x a ≡ true) ⊎ (has xs a ≡ true) → (has xs a ≡ true → names (map (line_at n) xs) (line_at n a) ≡ true)
+    go : (eqb x a ≡ true) ⊎ (is_listed xs a ≡ true) → (is_listed xs a ≡ true → names (map (line_at n) xs) (line_at n a) ≡ true)
         → (same_line (line_at n x) (line_at n a) || names (map (line_at n) xs) (line_at n a)) ≡ true
     go (inl e) ih = or_left _ _ (eq-eqb (line_at n x).0 (line_at n a).0 (ap (λ y. (line_at n y).0) (eqb-true x a e)))
     go (inr r) ih = or_right _ _ (ih r)
@@ -192,7 +192,7 @@ portion_lines p w j n (Some o) g f a =
 
 -- an address on no changed line is not stored to
 stores_changed : (p : Design) (w : World) → KeepsFresh p w → (e : Entry) → Allowed p w e → (a : ℕ)
-    → names (changed p w e) (line_at p.config.line_bytes a) ≡ false → has (stores_of p w e) a ≡ false
+    → names (changed p w e) (line_at p.config.line_bytes a) ≡ false → is_listed (stores_of p w e) a ≡ false
 stores_changed p w g (Step h) ok a out = step_addresses (setup_of p) w.flat h a g.setup out
 stores_changed p w g (Commit j n c) ok a out =
     false_from_ne_true _ (λ there.
@@ -210,7 +210,7 @@ stores_changed p w g (Kern j) ok a out = refl
 
 stores_changed_at : (p : Design) (w : World) → KeepsFresh p w → (x : Option Actor) (a : ℕ)
     → names (option_map_or (changed p w) (option_map (next p w) x) []) (line_at p.config.line_bytes a) ≡ false
-    → has (option_map_or (stores_of p w) (option_map (next p w) x) []) a ≡ false
+    → is_listed (option_map_or (stores_of p w) (option_map (next p w) x) []) a ≡ false
 stores_changed_at p w g None a h = refl
 stores_changed_at p w g (Some b) a h = stores_changed p w g (next p w b) (next-allowed p w b) a h
 
@@ -229,7 +229,7 @@ apart_from p s o t n (Some q) c k l r u a b =
 
 -- no place after the opening stores to what the committed portion loaded
 apart_since : (p : Design) (s : List Actor) → IsDesign p → (t j n c o : ℕ) → entry_at p s t ≡ Some (Commit j n c) → IsOpenedAt p s j o t
-    → (u : ℕ) → o < u → u < t → (a : ℕ) → has (outside_at p s t j n) a ≡ true → has (stores_at p s u) a ≡ false
+    → (u : ℕ) → o < u → u < t → (a : ℕ) → is_listed (outside_at p s t j n) a ≡ true → is_listed (stores_at p s u) a ≡ false
 apart_since p s is t j n c o e at u lo hi a load =
     stores_changed_at p (world_at p s u) (good u) (slice_get s u) a
     (apart_from p s o t n (w.seats j).opening commits known (line_at p.config.line_bytes a) read u lo hi)

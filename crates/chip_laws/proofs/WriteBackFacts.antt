@@ -8,11 +8,11 @@ use Rattle.conda_base.specs.declared.Mesi.{Mesi}
 use Rattle.conda_base.specs.declared.Mesi.TheVariants.{M, E, S}
 use Rattle.conda_base.specs.declared.actor.Actor.{Actor}
 use Rattle.conda_base.specs.declared.actor.Actor.TheVariants as The
-use Rattle.conda_base.specs.LineLists.{names, same_line, list_of}
+use Rattle.conda_base.specs.LineLists.{names, same_line, line_list}
 use Rattle.schedule_log.specs.declared.entry.Entry.{Entry}
 use Rattle.schedule_log.specs.declared.entry.Entry.TheVariants.{Commit, Back, Flush}
 use Rattle.traffic_trace.specs.declared.note.Kind.TheVariants as Kind_is
-use Rattle.line_memory.specs.Tags.{Tag, Tags, Shape, set_of, held_state, modified, is_modified, each_below, dirty_lines}
+use Rattle.line_memory.specs.Tags.{Tag, Tags, Shape, set_number, held_state, modified, is_modified, each_below, dirty_lines}
 use Rattle.line_memory.specs.Notes.{note_of, back_notes, flush_notes, flushes_notes}
 use Rattle.line_memory.specs.Owners.{is_owner}
 use Rattle.line_memory.proofs.MemberLemmas.{each_one}
@@ -90,10 +90,10 @@ owner_of shape tags l fit dirty =
     (holder.0, holder.1, at_set holder.0 found.0 (modified_state l (tags holder.0 found.0) (fit.owners.once holder.0 found.0) found.2))
   where
     at_set : (h s : ℕ) → lookup l (tags h s) ≡ Some M → held_state shape tags h l ≡ Some M
-    at_set h s e = go (cases_Bool (eqb s (set_of shape l)))
+    at_set h s e = go (cases_Bool (eqb s (set_number shape l)))
       where
-        go : (eqb s (set_of shape l) ≡ true) ⊎ (eqb s (set_of shape l) ≡ false) → held_state shape tags h l ≡ Some M
-        go (inl same) = ap (λ i. lookup l (tags h i)) (sym (eqb-true s (set_of shape l) same)) ∙ e
+        go : (eqb s (set_number shape l) ≡ true) ⊎ (eqb s (set_number shape l) ≡ false) → held_state shape tags h l ≡ Some M
+        go (inl same) = ap (λ i. lookup l (tags h i)) (sym (eqb-true s (set_number shape l) same)) ∙ e
         go (inr other) = absurd (true≢false (sym (ap is_some e) ∙ fit.placed h s l other))
 
 -- ---- the notes of a flush
@@ -107,7 +107,7 @@ one_back : (shape : Shape) (tags : Tags) (l : Line) (fit : TagsFit shape tags) (
 one_back shape tags l fit dirty =
     each_one shape.holders h (λ k. back_notes l k (held_state shape tags k l)) below
     (λ k u other. none_back l k (held_state shape tags k l)
-    (fit.owners.alone h k (set_of shape l) l u (λ same. other (sym same)) (ap is_owner owns)))
+    (fit.owners.alone h k (set_number shape l) l u (λ same. other (sym same)) (ap is_owner owns)))
     ∙ ap (back_notes l h) owns
   where
     h : ℕ
@@ -194,7 +194,7 @@ written_back d events a = record { lock = λ j e. all_back shape w.tags (dirty_o
         let dirty : names (dirty_of d w) found.0 ≡ true = find_named (is_member_of d.config.sig_bits (w.seats j).last) (dirty_of d w) found.0 found.1 in (
           found.0,
           found.1,
-          subst (λ x. AreWriteBacks shape w.tags (found.0 ∷ []) (flushes_notes shape w.tags (list_of x))) (sym found.1)
+          subst (λ x. AreWriteBacks shape w.tags (found.0 ∷ []) (flushes_notes shape w.tags (line_list x))) (sym found.1)
               (all_back shape w.tags (found.0 ∷ []) fit (λ l named. only l found.0 dirty named)),
         )
       where

@@ -6,7 +6,7 @@ use Rattle.schedule_log.specs.declared.entry.Entry.TheVariants.{Step, Lock, Spec
 use Rattle.rv32_hart.specs.Act.{plan_of}
 use Rattle.traffic_trace.specs.declared.note.Note.{Note}
 use Rattle.line_memory.specs.Notes.{flushes_notes, commit_notes}
-use Rattle.conda_base.specs.LineLists.{list_of}
+use Rattle.conda_base.specs.LineLists.{line_list}
 use Rattle.offload_calls.specs.LineUses.{LineUse, line_use}
 use Rattle.try_runs.specs.Fills.{next_fill, corefill_notes}
 use Rattle.chip_laws.specs.Design.{Design, hart_shape}
@@ -28,7 +28,7 @@ filled_of d (Some o) = filled_line d o
 unfoldable pub notes_of : Design → World → Entry → List Note
 notes_of d w (Step h) = use_notes (hart_shape d) w.tags h (hart_use d w h)
 notes_of d w (Lock j) = flushes_notes (hart_shape d) w.tags (dirty_of d w)
-notes_of d w (Flush j) = flushes_notes (hart_shape d) w.tags (list_of (flush_line d w j))
+notes_of d w (Flush j) = flushes_notes (hart_shape d) w.tags (line_list (flush_line d w j))
 notes_of d w (Spec j) = corefill_notes j (filled_of d (w.seats j).opening)
 notes_of d w (Commit j n cause) =
     commit_notes (hart_shape d) w.tags j (writes_of d (w.seats j).opening)

@@ -4,7 +4,7 @@ use Rattle.std.specs.Option.{option_map_or}
 use Rattle.conda_base.specs.declared.actor.Actor.{Actor}
 use Rattle.schedule_log.specs.declared.entry.Entry.{Entry}
 use Rattle.schedule_log.specs.declared.entry.Entry.TheVariants.{Step, Commit}
-use Rattle.offload_calls.specs.Stores.{has, stored_addresses}
+use Rattle.offload_calls.specs.Stores.{is_listed, stored_addresses}
 use Rattle.offload_calls.specs.HartAct.{hart_stores}
 use Rattle.offload_calls.specs.CoreActs.{outside, written}
 use Rattle.chip_laws.specs.Design.{Design, IsDesign, setup_of}
@@ -29,8 +29,8 @@ outside_at d events t j n = outside (setup_of d) (world_at d events t).flat j n
 pub record IsUntouched (d : Design) (events : List Actor) (j n s t : ℕ) : Type 0 where
   pub opened : IsOpenedAt d events j s t
   pub apart : (u : ℕ) → s < u → u < t
-      → (addr : ℕ) → has (outside_at d events t j n) addr ≡ true
-      → has (stores_at d events u) addr ≡ false
+      → (addr : ℕ) → is_listed (outside_at d events t j n) addr ≡ true
+      → is_listed (stores_at d events u) addr ≡ false
 
 -- so for each commit
 abbrev pub Untouched : Design → List Actor → Type 0

@@ -13,7 +13,7 @@ use Rattle.offload_calls.specs.State.{State, start}
 use Rattle.offload_calls.specs.Calls.{is_idle}
 use Rattle.offload_calls.specs.CoreActs.{core_runs}
 use Rattle.run_report.specs.Runs.{executed}
-use Rattle.conda_base.specs.LineLists.{list_of}
+use Rattle.conda_base.specs.LineLists.{line_list}
 use Rattle.offload_calls.specs.LineUses.{stored_line}
 use Rattle.try_runs.specs.Fills.{fills_with}
 use Rattle.chip_laws.specs.Design.{Design, setup_of, hart_shape}
@@ -33,7 +33,7 @@ flat_line d f l = bytes_of_line d.image.code.base d.config.line_bytes f.memory l
 
 -- the lines that an entry changes: the one that a step stores to, or those of a committed try
 abbrev pub changed : Design → World → Entry → List Line
-changed d w (Step h) = list_of (stored_line (hart_use d w h))
+changed d w (Step h) = line_list (stored_line (hart_use d w h))
 changed d w (Commit j n cause) = writes_of d (w.seats j).opening
 changed d w other = []
 

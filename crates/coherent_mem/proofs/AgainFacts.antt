@@ -8,7 +8,7 @@ use Rattle.conda_base.specs.Lines.{IsLineOf, line_number}
 use Rattle.conda_base.specs.declared.Line.{Line}
 use Rattle.conda_base.specs.declared.Mesi.{Mesi}
 use Rattle.conda_base.specs.declared.Mesi.TheVariants.{M}
-use Rattle.line_memory.specs.Tags.{dirty_lines, Tag, Tags, without_line, Shape, set_of, some_below, held_state, is_in_m}
+use Rattle.line_memory.specs.Tags.{dirty_lines, Tag, Tags, without_line, Shape, set_number, some_below, held_state, is_in_m}
 use Rattle.line_memory.specs.Backing.{dirty_in, HasSameNumbers, IsBacking, BackingView, IsInRange, shape_of}
 use Rattle.line_memory.specs.Access.{put_front, after_store}
 use Rattle.line_memory.specs.Notes.{access_notes, store_notes}
@@ -50,15 +50,15 @@ fronted_twice c l tags = go c.ways
 pub stored_again : (c : Shape) (tags : Tags) (h : ℕ) (l : Line) → 0 < c.ways → IsStoredAgain c tags h l
 stored_again c tags h l some = record {
   tags_stay = fun_ext (λ k. fun_ext (λ s. ⊎_elim
-      (λ (here : s ≡ set_of c l). ⊎_elim
-      (λ (same : k ≡ h). rw (eq-eqb s (set_of c l) here, eq-eqb k h same) (fronted_twice c l (tags k s)))
-      (λ (apart : k ≢ h). rw (eq-eqb s (set_of c l) here, test_off k h apart) (without_twice l (tags k s)))
+      (λ (here : s ≡ set_number c l). ⊎_elim
+      (λ (same : k ≡ h). rw (eq-eqb s (set_number c l) here, eq-eqb k h same) (fronted_twice c l (tags k s)))
+      (λ (apart : k ≢ h). rw (eq-eqb s (set_number c l) here, test_off k h apart) (without_twice l (tags k s)))
       (cases_eq k h))
-      (λ (other : s ≢ set_of c l). rw (test_off s (set_of c l) other) refl)
-      (cases_eq s (set_of c l))));
+      (λ (other : s ≢ set_number c l). rw (test_off s (set_number c l) other) refl)
+      (cases_eq s (set_number c l))));
   no_notes =
-      let list : after_store c tags h l h (set_of c l) ≡ put_front c.ways l M (tags h (set_of c l)) = rw (eq-eqb (set_of c l) (set_of c l) refl, eq-eqb h h refl) refl in
-      let state : held_state c (after_store c tags h l) h l ≡ Some M = ap (λ (ts : List Tag). lookup l ts) list ∙ front c.ways (tags h (set_of c l)) some in
+      let list : after_store c tags h l h (set_number c l) ≡ put_front c.ways l M (tags h (set_number c l)) = rw (eq-eqb (set_number c l) (set_number c l) refl, eq-eqb h h refl) refl in
+      let state : held_state c (after_store c tags h l) h l ≡ Some M = ap (λ (ts : List Tag). lookup l ts) list ∙ front c.ways (tags h (set_number c l)) some in
       ap (λ (o : Option Mesi). store_notes c (after_store c tags h l) h l o) state;
 }
   where

@@ -11,7 +11,7 @@ use Rattle.conda_base.specs.declared.Line.{Line}
 use Rattle.conda_base.specs.declared.Mesi.{Mesi}
 use Rattle.conda_base.specs.declared.Mesi.TheVariants.{M, E, S}
 use Rattle.conda_base.specs.Bytes.{bytes_of_line}
-use Rattle.cpu_cache.specs.Contents.{Content, Contents, empty, state_of, tags_of}
+use Rattle.cpu_cache.specs.Contents.{Content, Contents, no_contents, state_of, tags_of}
 use Rattle.mesi_directory.specs.Rows.{row_of}
 use Rattle.traffic_trace.specs.Notes.{Trace, noted}
 use Rattle.traffic_trace.specs.declared.note.Note.{Note}
@@ -70,7 +70,7 @@ alone_owner p h l a are at owns =
     }
 
 pub tags_past : (p : Parts) (k s : ℕ) → length p.caches ≤ k → (shown p).tags k s ≡ []
-tags_past p k s past = ap (λ (c : Contents). tags_of c s) (get_or_past p.caches k (empty 0 0 0) past)
+tags_past p k s past = ap (λ (c : Contents). tags_of c s) (get_or_past p.caches k (no_contents 0 0 0) past)
 
 pub lookup-without_line : (l : Line) (tags : List Tag) → lookup l (without_line l tags) ≡ None
 lookup-without_line l [] = refl

@@ -10,9 +10,9 @@ use Rattle.std.proofs.Math.Nat.{mul-le-mul_left}
 use Rattle.conda_base.specs.declared.Line.{Line}
 use Rattle.conda_base.specs.declared.Mesi.TheVariants.{M}
 use Rattle.set_assoc.specs.Entries.{lookup, AreEntries}
-use Rattle.cpu_cache.specs.Contents.{Content, Contents, IsHeld, content_of, tag_of, bytes_of, content_bytes, empty, tags_of}
+use Rattle.cpu_cache.specs.Contents.{Content, Contents, IsHeld, content_of, tag_of, bytes_of, content_bytes, no_contents, tags_of}
 use Rattle.mesi_directory.specs.declared.row.Row.TheVariants.{Owner}
-use Rattle.mesi_directory.specs.Rows.{row_of, has}
+use Rattle.mesi_directory.specs.Rows.{row_of, has_holder}
 use Rattle.line_memory.specs.Owners.{is_owner}
 use Rattle.line_memory.specs.Backing.{dirty_in, view_of, shape_of, IsInRange, IsDirty}
 use Rattle.line_memory.specs.Memory.{IsMemory, IsIn, line_of}
@@ -44,7 +44,7 @@ tags_cases p are h s =
     (λ (below : s < p.sets). inr (inside, below))
     (λ (past : p.sets ≤ s). inl (let fits = are.fits h inside in ap (λ es. map tag_of es) (get_or_past (cache_at p h).lines.lists s [] (rw fits.sets past))))
     (cases_lt s p.sets))
-    (λ (past : length p.caches ≤ h). inl (ap (λ (c : Contents). tags_of c s) (get_or_past p.caches h (empty 0 0 0) past)))
+    (λ (past : length p.caches ≤ h). inl (ap (λ (c : Contents). tags_of c s) (get_or_past p.caches h (no_contents 0 0 0) past)))
     (cases_lt h (length p.caches))
 
 abbrev set_line : ℕ → Line
@@ -249,7 +249,7 @@ cache_of p h was are inside read =
     })
 
 -- the rows are the holders
-row_holders : (p : Parts) → AreParts p → (l : Line) → IsInRange (shown p) l → (h : ℕ) → has (row_of p.rows l) h ≡ is_some (held_state (shape_of (shown p)) (shown p).tags h l)
+row_holders : (p : Parts) → AreParts p → (l : Line) → IsInRange (shown p) l → (h : ℕ) → has_holder (row_of p.rows l) h ≡ is_some (held_state (shape_of (shown p)) (shown p).tags h l)
 row_holders p are l there h =
     (are.kept l (range_in p are l there)).holders h ∙ sym (ap is_some (state_shown p are l h) ∙ is_some-mapped (held p l h))
 

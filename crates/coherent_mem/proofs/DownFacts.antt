@@ -5,7 +5,7 @@ use Rattle.conda_base.specs.declared.Line.{Line}
 use Rattle.conda_base.specs.declared.Mesi.{Mesi}
 use Rattle.conda_base.specs.declared.Mesi.TheVariants.{M, E, S}
 use Rattle.conda_base.specs.Bytes.{handed_out}
-use Rattle.cpu_cache.specs.Contents.{Content, Contents, content_of, set_list, with_set, restated, bytes_in, written_back as handed_back}
+use Rattle.cpu_cache.specs.Contents.{Content, Contents, content_of, set_list, with_set, restated, bytes_in, written_back}
 use Rattle.set_assoc.proofs.FindFacts.{list_entries}
 use Rattle.mesi_directory.specs.declared.row.Row.{Row}
 use Rattle.mesi_directory.specs.declared.row.Row.TheVariants.{Owner}
@@ -19,7 +19,7 @@ use Rattle.line_memory.specs.Memory.{Memory, line_of, with_line}
 use Rattle.line_memory.specs.Tags.{held_state}
 use Rattle.line_memory.specs.Backing.{shape_of}
 use Rattle.line_memory.specs.Access.{shared_line}
-use Rattle.coherent_mem.specs.Moves.{IsMoved, list_at, written_back, backed, backed_notes}
+use Rattle.coherent_mem.specs.Moves.{IsMoved, list_at, flushed_copies, backed, backed_notes}
 use Rattle.coherent_mem.specs.Parts.{Parts, AreParts, IsKept, cache_at, held, seen, shown}
 use Rattle.coherent_mem.proofs.CacheFacts.{edit_restated}
 use Rattle.coherent_mem.proofs.LineFacts.{beside_owner, kept_down}
@@ -29,9 +29,9 @@ use Rattle.coherent_mem.proofs.ViewFacts.{held_inside, view_of_shown}
 use Rattle.coherent_mem.proofs.MoveFacts.{CanLeave, can_leave, IsBack, moved, read_cache, back_content, edits_of, quiet_edit, seen_content, list_entries_of, state_held}
 
 pub downed : (p : Parts) (o : ℕ) (l : Line) (a : Content) (cache : Contents) (memory : Memory) (rows : Rows) → AreParts p → held p l o ≡ Some a → a.state ≢ S
-    → cache ≡ with_set (cache_at p o) l (restated (cache_at p o) l S) → memory ≡ backed p.memory l (handed_back (content_of (cache_at p o) l))
+    → cache ≡ with_set (cache_at p o) l (restated (cache_at p o) l S) → memory ≡ backed p.memory l (written_back (content_of (cache_at p o) l))
     → rows ≡ with_row p.rows l (shared_with (row_of p.rows l) o)
-    → IsMoved (shared_line l (list_at (shown p) o l)) (written_back (shown p) l) o l p (moved p o cache memory rows)
+    → IsMoved (shared_line l (list_at (shown p) o l)) (flushed_copies (shown p) l) o l p (moved p o cache memory rows)
 downed p o l a cache memory rows are at owns cached backed_is rowed =
     let inside = held_inside p l o a at in
     let few = are.few in
@@ -68,7 +68,7 @@ downed p o l a cache memory rows are at owns cached backed_is rowed =
     let was : seen p l ≡ a.bytes = seen_content p are l o a at in
     let now : seen q l ≡ a.bytes = seen_content q parts l o shares here in
     record {
-      edits = edits_of p q o l (Some shares) (restated (cache_at p o) l S) (shared_line l (list_at (shown p) o l)) (written_back (shown p) l) are inside e cached
+      edits = edits_of p q o l (Some shares) (restated (cache_at p o) l S) (shared_line l (list_at (shown p) o l)) (flushed_copies (shown p) l) are inside e cached
           (ap (λ ts. shared_line l ts) (list_entries_of p are o l inside) ∙ shared_line-map _ _ l _ (set_list (cache_at p o) l) (list_entries (cache_at p o).lines l fits.is.sets))
           (now ∙ sym was)
           (back.all ∙ ap (λ b. with_line p.memory.base p.memory.line_bytes p.memory.bytes l.0 b) (sym (view_of_shown p are l there ∙ was)));
@@ -92,23 +92,23 @@ owner_held p are l o is = go (held p l o) refl (sym (ap is_owner (state_shown p 
 -- what the calls ensure that share an owner's line
 pub record IsSharing (p : Parts) (o : ℕ) (l : Line) (was : Contents) (back : Option (List ℕ)) (cache : Contents) (memory : Memory) (rows : Rows) : Type 0 where
   pub read : was ≡ get_or p.caches o was
-  pub bytes : back ≡ handed_back (content_of was l)
+  pub bytes : back ≡ written_back (content_of was l)
   pub shared : cache ≡ with_set was l (restated was l S)
   pub written : memory ≡ backed p.memory l back
   pub rowed : rows ≡ with_row p.rows l (shared_with (row_of p.rows l) o)
 
 pub sharing : (p : Parts) (o : ℕ) (l : Line) (was : Contents) (back : Option (List ℕ)) (cache : Contents) (memory : Memory) (rows : Rows) → AreParts p → is_owner (held_state (shape_of (shown p)) (shown p).tags o l) ≡ true → IsSharing p o l was back cache memory rows
-    → IsMoved (shared_line l (list_at (shown p) o l)) (written_back (shown p) l) o l p (moved p o cache memory rows)
+    → IsMoved (shared_line l (list_at (shown p) o l)) (flushed_copies (shown p) l) o l p (moved p o cache memory rows)
 sharing p o l was back cache memory rows are is does =
     let a = owner_held p are l o is in
     let inside = held_inside p l o a.0 a.1 in
     let read : was ≡ cache_at p o = read_cache p o was inside does.read in
     downed p o l a.0 cache memory rows are a.1 a.2
     (does.shared ∙ ap (λ (c : Contents). with_set c l (restated c l S)) read)
-    (does.written ∙ ap (λ b. backed p.memory l b) (does.bytes ∙ ap (λ (c : Contents). handed_back (content_of c l)) read))
+    (does.written ∙ ap (λ b. backed p.memory l b) (does.bytes ∙ ap (λ (c : Contents). written_back (content_of c l)) read))
     does.rowed
 
-down_noted : (trace : Trace) (o : ℕ) (l : Line) (a : Content) → a.state ≢ S → noted (all_noted trace (backed_notes o l (handed_back (Some a)))) (note_of Down o l) ≡ all_noted trace (down_notes l o (Some a.state))
+down_noted : (trace : Trace) (o : ℕ) (l : Line) (a : Content) → a.state ≢ S → noted (all_noted trace (backed_notes o l (written_back (Some a)))) (note_of Down o l) ≡ all_noted trace (down_notes l o (Some a.state))
 down_noted trace o l a apart = go a.state a.bytes apart
   where
     go : (state : Mesi) (bytes : List ℕ) → state ≢ S → noted (all_noted trace (backed_notes o l (bytes_in state (handed_out bytes)))) (note_of Down o l) ≡ all_noted trace (down_notes l o (Some state))
@@ -116,13 +116,13 @@ down_noted trace o l a apart = go a.state a.bytes apart
     go E bytes off = refl
     go S bytes off = absurd (off refl)
 
-pub sharing_noted : (p : Parts) (o : ℕ) (l : Line) (was : Contents) (back : Option (List ℕ)) (trace : Trace) → AreParts p → is_owner (held_state (shape_of (shown p)) (shown p).tags o l) ≡ true → was ≡ get_or p.caches o was → back ≡ handed_back (content_of was l)
+pub sharing_noted : (p : Parts) (o : ℕ) (l : Line) (was : Contents) (back : Option (List ℕ)) (trace : Trace) → AreParts p → is_owner (held_state (shape_of (shown p)) (shown p).tags o l) ≡ true → was ≡ get_or p.caches o was → back ≡ written_back (content_of was l)
     → noted (all_noted trace (backed_notes o l back)) (note_of Down o l) ≡ all_noted trace (down_notes l o (held_state (shape_of (shown p)) (shown p).tags o l))
 sharing_noted p o l was back trace are is read bytes =
     let a = owner_held p are l o is in
     let inside = held_inside p l o a.0 a.1 in
     let cache : was ≡ cache_at p o = read_cache p o was inside read in
-    ap (λ b. noted (all_noted trace (backed_notes o l b)) (note_of Down o l)) (bytes ∙ ap (λ (c : Contents). handed_back (content_of c l)) cache ∙ ap handed_back a.1) ∙
+    ap (λ b. noted (all_noted trace (backed_notes o l b)) (note_of Down o l)) (bytes ∙ ap (λ (c : Contents). written_back (content_of c l)) cache ∙ ap written_back a.1) ∙
     down_noted trace o l a.0 a.2 ∙
     ap (λ x. all_noted trace (down_notes l o x)) (sym (state_held p are l o a.0 a.1))
 

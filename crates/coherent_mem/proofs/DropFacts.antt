@@ -16,7 +16,7 @@ use Rattle.line_memory.specs.Notes.{note_of, back_notes, leave_notes, all_noted}
 use Rattle.line_memory.specs.Memory.{IsIn, with_line}
 use Rattle.line_memory.specs.Tags.{Tag, without_line, held_state}
 use Rattle.line_memory.specs.Backing.{view_of, HasSameNumbers, shape_of}
-use Rattle.coherent_mem.specs.Moves.{IsMoved, list_at, written_back, IsDropped, dropped_notes, own_with, relisted}
+use Rattle.coherent_mem.specs.Moves.{IsMoved, list_at, flushed_copies, IsDropped, dropped_notes, own_with, relisted}
 use Rattle.coherent_mem.specs.Parts.{Parts, AreParts, shown}
 use Rattle.coherent_mem.proofs.CacheFacts.{test_off}
 use Rattle.coherent_mem.proofs.ViewFacts.{view_of_shown, length_seen}
@@ -54,7 +54,7 @@ with_line_twice base n l bytes first second within long = twice (l * n - base) n
         ap (λ xs. xs ++ second ++ drop (s + n) (take s bytes ++ first ++ drop (s + n) bytes)) front ∙ ap (λ xs. take s bytes ++ second ++ xs) back
 
 -- a line was written back: but for it memory's own bytes stay
-pub own_written : (p q : Parts) (l : Line) → AreParts p → IsIn p.memory l → HasSameNumbers (shown p) (shown q) → (shown q).copies ≡ written_back (shown p) l → (bytes : List ℕ) → own_with (shown q) l bytes ≡ own_with (shown p) l bytes
+pub own_written : (p q : Parts) (l : Line) → AreParts p → IsIn p.memory l → HasSameNumbers (shown p) (shown q) → (shown q).copies ≡ flushed_copies (shown p) l → (bytes : List ℕ) → own_with (shown q) l bytes ≡ own_with (shown p) l bytes
 own_written p q l are there same copies bytes =
     let m = p.memory in
     let span = line_bytes_in_memory m.base (length m.bytes) m.line_bytes l.0 are.memory.size are.memory.whole_base are.memory.whole_bytes there in
@@ -64,7 +64,7 @@ own_written p q l are there same copies bytes =
     ap (λ (own : List ℕ). with_line m.base m.line_bytes own l.0 bytes) copies ∙
     with_line_twice m.base m.line_bytes l.0 m.bytes (view_of (shown p) l) bytes (omega arith) long
 
-pub dropped_more : (p q r : Parts) (h k : ℕ) (l : Line) → IsDropped h l k p q → IsIn q.memory l → k ≢ h → IsMoved (without_line l (list_at (shown q) k l)) (written_back (shown q) l) k l q r → IsDropped h l (suc k) p r
+pub dropped_more : (p q r : Parts) (h k : ℕ) (l : Line) → IsDropped h l k p q → IsIn q.memory l → k ≢ h → IsMoved (without_line l (list_at (shown q) k l)) (flushed_copies (shown q) l) k l q r → IsDropped h l (suc k) p r
 dropped_more p q r h k l so_far there apart is =
     let n : ℕ = l.0 % p.sets in
     record {
@@ -164,7 +164,7 @@ pub record IsNext (p q : Parts) (h k : ℕ) (l : Line) (start after : Trace) : T
   pub notes : after ≡ all_noted start (dropped_notes (shown p) h l (k + 1))
 
 pub next_more : (p q r s : Parts) (h k : ℕ) (l : Line) (start before after end : Trace) → IsDropped h l k p q → IsIn q.memory l → before ≡ all_noted start (dropped_notes (shown p) h l k) → k ≢ h
-    → IsMoved (without_line l (list_at (shown q) k l)) (written_back (shown q) l) k l q r → IsSome (held_state (shape_of (shown q)) (shown q).tags k l)
+    → IsMoved (without_line l (list_at (shown q) k l)) (flushed_copies (shown q) l) k l q r → IsSome (held_state (shape_of (shown q)) (shown q).tags k l)
     → after ≡ noted (all_noted before (back_notes l k (held_state (shape_of (shown q)) (shown q).tags k l))) (note_of Drop k l) → s ≡ r → end ≡ after → IsNext p s h k l start end
 next_more p q r s h k l start before after end so_far there noted_so_far apart is some told same same_end = record {
   dropped = at_next (λ n. IsDropped h l n p s) k (subst (λ (x : Parts). IsDropped h l (suc k) p x) (sym same) (dropped_more p q r h k l so_far there apart is));

@@ -10,7 +10,7 @@ use Rattle.conda_base.specs.Bytes.{handed_out}
 use Rattle.cpu_cache.specs.Contents.{Content, Contents, set_list, tag_of, with_set, filled}
 use Rattle.mesi_directory.specs.declared.row.Row.{Row}
 use Rattle.mesi_directory.specs.declared.row.Row.TheVariants.{Owner}
-use Rattle.mesi_directory.specs.Rows.{Rows, IsRow, row_of, with_row, has, shared_with}
+use Rattle.mesi_directory.specs.Rows.{Rows, IsRow, row_of, with_row, has_holder, shared_with}
 use Rattle.mesi_directory.proofs.RowLemmas.{row_of-with_row_same, IsRow-shared_with, has-owner}
 use Rattle.line_memory.specs.Memory.{IsIn, line_of}
 use Rattle.line_memory.specs.Backing.{view_of}
@@ -25,7 +25,7 @@ use Rattle.coherent_mem.proofs.MoveFacts.{moved, read_cache, edits_of, quiet_edi
 no_owner : (p : Parts) → AreParts p → (l : Line) → IsIn p.memory l → ((k : ℕ) (a : Content) → held p l k ≡ Some a → a.state ≡ S) → (k : ℕ) → row_of p.rows l ≢ Owner k
 no_owner p are l there shared k owner =
     let kept = are.kept l there in
-    let has_it : is_some (held p l k) ≡ true = sym (kept.holders k) ∙ ap (λ r. has r k) owner ∙ has-owner k k ∙ eq-eqb k k refl in
+    let has_it : is_some (held p l k) ≡ true = sym (kept.holders k) ∙ ap (λ r. has_holder r k) owner ∙ has-owner k k ∙ eq-eqb k k refl in
     ⊎_elim
     (λ (none : held p l k ≡ None). let both : false ≡ true = sym (ap is_some none) ∙ has_it in cc)
     (λ (some : (a : Content) × (held p l k ≡ Some a)). kept.owned k some.0 some.1 owner (shared k some.0 some.1))

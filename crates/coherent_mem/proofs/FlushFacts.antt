@@ -8,7 +8,7 @@ use Rattle.conda_base.specs.declared.Line.{Line}
 use Rattle.conda_base.specs.declared.Mesi.TheVariants.{M, E, S}
 use Rattle.conda_base.specs.Bytes.{handed_out}
 use Rattle.set_assoc.specs.Entries.{replaced, lookup, AreEntries}
-use Rattle.cpu_cache.specs.Contents.{Content, Contents, set_list, tag_of, with_set, restated, state_of, content_of, bytes_in, written_back as handed_back}
+use Rattle.cpu_cache.specs.Contents.{Content, Contents, set_list, tag_of, with_set, restated, state_of, content_of, bytes_in, written_back}
 use Rattle.set_assoc.proofs.FindFacts.{list_entries}
 use Rattle.mesi_directory.specs.declared.row.Row.{Row}
 use Rattle.mesi_directory.specs.declared.row.Row.TheVariants.{Owner}
@@ -16,10 +16,10 @@ use Rattle.mesi_directory.specs.Rows.{row_of}
 use Rattle.traffic_trace.specs.declared.note.Kind.TheVariants.{Back}
 use Rattle.line_memory.specs.Backing.{shape_of, BackingView, IsDirty, flushed}
 use Rattle.line_memory.specs.Notes.{note_of, flush_notes, back_notes}
-use Rattle.line_memory.specs.Memory.{Memory, IsIn, line_of, with_line, written}
+use Rattle.line_memory.specs.Memory.{Memory, IsIn, line_of, with_line, with_bytes}
 use Rattle.line_memory.specs.Tags.{Tag, Tags, held_state, cleaned_line, cleaned_state}
 use Rattle.line_memory.proofs.MemberLemmas.{cons_here, cons_later}
-use Rattle.coherent_mem.specs.Moves.{Edits, backed, list_at, written_back}
+use Rattle.coherent_mem.specs.Moves.{Edits, backed, list_at, flushed_copies}
 use Rattle.coherent_mem.specs.Parts.{Parts, AreParts, IsKept, cache_at, held, seen, shown}
 use Rattle.coherent_mem.proofs.CacheFacts.{edit_restated, test_off}
 use Rattle.coherent_mem.proofs.LineFacts.{m_not_s, kept_owned, beside_owner}
@@ -92,7 +92,7 @@ pub record IsFlush (p q : Parts) (o : ℕ) (l : Line) : Type 0 where
   pub notes : flush_notes (shape_of (shown p)) (shown p).tags l ≡ note_of Back o l ∷ []
 
 pub flush_line : (p : Parts) (o : ℕ) (l : Line) (a : Content) (cache : Contents) (memory : Memory) → AreParts p → held p l o ≡ Some a → a.state ≡ M
-    → cache ≡ with_set (cache_at p o) l (restated (cache_at p o) l E) → memory ≡ written p.memory l (take p.memory.line_bytes (handed_out a.bytes))
+    → cache ≡ with_set (cache_at p o) l (restated (cache_at p o) l E) → memory ≡ with_bytes p.memory l (take p.memory.line_bytes (handed_out a.bytes))
     → IsFlush p (moved p o cache memory p.rows) o l
 flush_line p o l a cache memory are at m cached back_is =
     let inside = held_inside p l o a at in
@@ -123,8 +123,8 @@ flush_line p o l a cache memory are at m cached back_is =
     let now : seen q l ≡ a.bytes = seen_content q parts l o new here in
     let list : cleaned_line l (list_at (shown p) o l) ≡ map tag_of (restated (cache_at p o) l E) =
     ap (λ ts. cleaned_line l ts) (list_entries_of p are o l inside) ∙ cleaned_line-map _ _ l a _ (set_list (cache_at p o) l) (list_entries (cache_at p o).lines l fits.is.sets) at m in
-    let edits : Edits (cleaned_line l (list_at (shown p) o l)) (written_back (shown p) l) o l (shown p) (shown q) =
-    edits_of p q o l (Some new) (restated (cache_at p o) l E) (cleaned_line l (list_at (shown p) o l)) (written_back (shown p) l) are inside e cached list (now ∙ sym was)
+    let edits : Edits (cleaned_line l (list_at (shown p) o l)) (flushed_copies (shown p) l) o l (shown p) (shown q) =
+    edits_of p q o l (Some new) (restated (cache_at p o) l E) (cleaned_line l (list_at (shown p) o l)) (flushed_copies (shown p) l) are inside e cached list (now ∙ sym was)
     (back.all ∙ ap (λ b. with_line p.memory.base p.memory.line_bytes p.memory.bytes l.0 b) (sym (view_of_shown p are l there ∙ was))) in
     let tags : (k s : ℕ) → (shown q).tags k s ≡ cleaned_line l ((shown p).tags k s) =
     λ k s. edits.tags k s ∙ ⊎_elim
@@ -175,10 +175,10 @@ can_clean p o l was are is read =
     ap (λ (c : Contents). state_of c l) cache ∙ ap (λ (x : Option Content). option_map (λ content. content.state) x) is.held ∙ ap (λ s. Some s) is.state
 
 -- what is written back of a dirty line
-pub back_of : (p : Parts) (o : ℕ) (l : Line) (was : Contents) (back : Option (List ℕ)) → AreParts p → (is : IsDirtyAt p l o) → was ≡ get_or p.caches o was → back ≡ handed_back (content_of was l) → back ≡ Some (handed_out is.content.bytes)
+pub back_of : (p : Parts) (o : ℕ) (l : Line) (was : Contents) (back : Option (List ℕ)) → AreParts p → (is : IsDirtyAt p l o) → was ≡ get_or p.caches o was → back ≡ written_back (content_of was l) → back ≡ Some (handed_out is.content.bytes)
 back_of p o l was back are is read handed =
     let same : was ≡ cache_at p o = read_cache p o was (held_inside p l o is.content is.held) read in
-    handed ∙ ap (λ (c : Contents). handed_back (content_of c l)) same ∙ ap handed_back is.held ∙ ap (λ s. bytes_in s (handed_out is.content.bytes)) is.state
+    handed ∙ ap (λ (c : Contents). written_back (content_of c l)) same ∙ ap written_back is.held ∙ ap (λ s. bytes_in s (handed_out is.content.bytes)) is.state
 
 pub flushing : (p : Parts) (o : ℕ) (l : Line) (was cache : Contents) (back : Option (List ℕ)) (memory : Memory) → AreParts p → (is : IsDirtyAt p l o) → was ≡ get_or p.caches o was → back ≡ Some (handed_out is.content.bytes) → cache ≡ with_set was l (restated was l E) → memory ≡ backed p.memory l back → IsFlush p (moved p o cache memory p.rows) o l
 flushing p o l was cache back memory are is read handed cached back_is =

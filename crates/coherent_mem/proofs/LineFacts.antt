@@ -7,7 +7,7 @@ use Rattle.conda_base.specs.declared.Mesi.TheVariants.{M, E, S}
 use Rattle.cpu_cache.specs.Contents.{Content}
 use Rattle.mesi_directory.specs.declared.row.Row.{Row}
 use Rattle.mesi_directory.specs.declared.row.Row.TheVariants.{Nobody, Owner, Shared}
-use Rattle.mesi_directory.specs.Rows.{has, shared_with, sharers, without}
+use Rattle.mesi_directory.specs.Rows.{has_holder, shared_with, sharers, without_holder}
 use Rattle.mesi_directory.proofs.RowLemmas.{has-owner, has-shared_with, has-without}
 use Rattle.coherent_mem.specs.Parts.{IsKept, bytes_or, seen_below}
 use Rattle.coherent_mem.proofs.CacheFacts.{test_off}
@@ -55,7 +55,7 @@ sharers_apart bits h same =
 pub sole : (f : ℕ → Option Content) (row : Row) (copy : List ℕ) → IsKept f row copy → (h k : ℕ) (a b : Content) → f h ≡ Some a → a.state ≢ S → f k ≡ Some b → k ≡ h
 sole f row copy is h k a b there owns other =
     let owner : row ≡ Owner h = is.owner h a there owns in
-    let test : (k == h) ≡ true = sym (has-owner h k) ∙ ap (λ r. has r k) (sym owner) ∙ is.holders k ∙ some_test (f k) b other in
+    let test : (k == h) ≡ true = sym (has-owner h k) ∙ ap (λ r. has_holder r k) (sym owner) ∙ is.holders k ∙ some_test (f k) b other in
     eqb-true k h test
 
 pub beside_owner : (f : ℕ → Option Content) (row : Row) (copy : List ℕ) → IsKept f row copy → (h k : ℕ) (a : Content) → f h ≡ Some a → a.state ≢ S → k ≢ h → f k ≡ None
@@ -131,7 +131,7 @@ kept_owned g copy h a there owns alone fresh =
     }
 
 -- a line that its holders share
-pub kept_shared : (g : ℕ → Option Content) (row : Row) (copy : List ℕ) → ((k : ℕ) → has row k ≡ is_some (g k)) → ((k : ℕ) → row ≢ Owner k) → ((k : ℕ) (a : Content) → g k ≡ Some a → (a.state ≡ S) × (a.bytes ≡ copy)) → IsKept g row copy
+pub kept_shared : (g : ℕ → Option Content) (row : Row) (copy : List ℕ) → ((k : ℕ) → has_holder row k ≡ is_some (g k)) → ((k : ℕ) → row ≢ Owner k) → ((k : ℕ) (a : Content) → g k ≡ Some a → (a.state ≡ S) × (a.bytes ≡ copy)) → IsKept g row copy
 kept_shared g row copy holders no_owner all = record {
   holders = holders;
   owner = λ k a at state. absurd (state (all k a at).0);
@@ -140,13 +140,13 @@ kept_shared g row copy holders no_owner all = record {
 }
 
 -- one holder of a line leaves it, and memory has its bytes
-pub kept_left : (f g : ℕ → Option Content) (row : Row) (copy : List ℕ) (h : ℕ) (a : Content) → IsKept f row copy → f h ≡ Some a → g h ≡ None → ((k : ℕ) → k ≢ h → g k ≡ f k) → IsKept g (without row h) a.bytes
+pub kept_left : (f g : ℕ → Option Content) (row : Row) (copy : List ℕ) (h : ℕ) (a : Content) → IsKept f row copy → f h ≡ Some a → g h ≡ None → ((k : ℕ) → k ≢ h → g k ≡ f k) → IsKept g (without_holder row h) a.bytes
 kept_left f g row copy h a is there gone beside =
-    let held : has row h ≡ true = is.holders h ∙ some_test (f h) a there in
-    kept_shared g (without row h) a.bytes
+    let held : has_holder row h ≡ true = is.holders h ∙ some_test (f h) a there in
+    kept_shared g (without_holder row h) a.bytes
     (λ k. has-without row h k held ∙ ⊎_elim
-    (λ (same : k ≡ h). rw (eq-eqb k h same) (off (has row k)) ∙ sym (ap is_some (ap g same ∙ gone)))
-    (λ (apart : k ≢ h). rw (test_off k h apart) (on (has row k)) ∙ is.holders k ∙ ap is_some (sym (beside k apart))) (cases_eq k h))
+    (λ (same : k ≡ h). rw (eq-eqb k h same) (off (has_holder row k)) ∙ sym (ap is_some (ap g same ∙ gone)))
+    (λ (apart : k ≢ h). rw (test_off k h apart) (on (has_holder row k)) ∙ is.holders k ∙ ap is_some (sym (beside k apart))) (cases_eq k h))
     (λ k same. sharers_apart _ k same)
     (λ k b at.
     let apart : k ≢ h = λ same. none_not_some (g k) b (ap g same ∙ gone) at in
@@ -184,8 +184,8 @@ pub kept_joined : (f g : ℕ → Option Content) (row : Row) (copy : List ℕ) (
 kept_joined f g row copy h is no_owner now beside =
     kept_shared g (shared_with row h) copy
     (λ k. has-shared_with row h k ∙ ⊎_elim
-    (λ (same : k ≡ h). rw (eq-eqb k h same) (on (has row k)) ∙ sym (ap is_some (ap g same ∙ now)))
-    (λ (apart : k ≢ h). rw (test_off k h apart) (off (has row k)) ∙ is.holders k ∙ ap is_some (sym (beside k apart))) (cases_eq k h))
+    (λ (same : k ≡ h). rw (eq-eqb k h same) (on (has_holder row k)) ∙ sym (ap is_some (ap g same ∙ now)))
+    (λ (apart : k ≢ h). rw (test_off k h apart) (off (has_holder row k)) ∙ is.holders k ∙ ap is_some (sym (beside k apart))) (cases_eq k h))
     (λ k same. cc)
     (λ k b at. ⊎_elim
     (λ (same : k ≡ h).

@@ -16,7 +16,7 @@ use Rattle.traffic_trace.specs.Notes.{Trace, noted}
 use Rattle.traffic_trace.specs.declared.note.Note.{Note}
 use Rattle.traffic_trace.specs.declared.note.Kind.TheVariants.{Merge}
 use Rattle.line_memory.specs.Notes.{all_notes, all_noted, note_of, leave_notes, merge_notes}
-use Rattle.line_memory.specs.Memory.{Memory, IsIn, line_of, with_line, written}
+use Rattle.line_memory.specs.Memory.{Memory, IsIn, line_of, with_line, with_bytes}
 use Rattle.line_memory.specs.Tags.{without_line, each_below, held_state}
 use Rattle.line_memory.specs.Backing.{IsInRange, view_of, merged, committed_line, shape_of}
 use Rattle.line_memory.proofs.MemoryLemmas.{bytes_of_line-with_line}
@@ -51,11 +51,11 @@ pub record IsMixed (p : Parts) (l : Line) (new : List ℕ) (q : Parts) : Type 0 
   pub are : AreParts q
   pub view : (shown q).view ≡ with_line p.memory.base p.memory.line_bytes (shown p).view l.0 new
 
-pub mixed_line : (p : Parts) (l : Line) (new : List ℕ) → AreParts p → IsIn p.memory l → ((k : ℕ) → held p l k ≡ None) → length new ≡ p.memory.line_bytes → IsMixed p l new (with_memory p (written p.memory l new))
+pub mixed_line : (p : Parts) (l : Line) (new : List ℕ) → AreParts p → IsIn p.memory l → ((k : ℕ) → held p l k ≡ None) → length new ≡ p.memory.line_bytes → IsMixed p l new (with_memory p (with_bytes p.memory l new))
 mixed_line p l new are there none long =
     let m = p.memory in
     let n : ℕ = m.line_bytes in
-    let own : Memory = written m l new in
+    let own : Memory = with_bytes m l new in
     let q : Parts = with_memory p own in
     let w : IsWritten m l own = written_line m l new are.memory there long in
     let now : line_of own l ≡ new = bytes_of_line-with_line m.base n l.0 m.bytes new are.memory there long in
@@ -108,7 +108,7 @@ pub record IsMerge (p q : Parts) (l : Line) (bytes : List ℕ) (mask : ℕ) : Ty
   pub merged : shown q ≡ merged (shown p) l bytes mask
 
 pub merging : (p q : Parts) (l : Line) (bytes : List ℕ) (mask : ℕ) (memory : Memory) → AreParts p → IsInRange (shown p) l → length bytes ≡ 128 → IsDropped (length p.caches) l (length p.caches) p q
-    → memory ≡ written q.memory l (mixed mask (take q.memory.line_bytes bytes) (line_of q.memory l)) → IsMerge p (with_memory q memory) l bytes mask
+    → memory ≡ with_bytes q.memory l (mixed mask (take q.memory.line_bytes bytes) (line_of q.memory l)) → IsMerge p (with_memory q memory) l bytes mask
 merging p q l bytes mask memory are there long dropped mixed_is =
     let h : ℕ = length p.caches in
     let n : ℕ = q.memory.line_bytes in
@@ -127,7 +127,7 @@ merging p q l bytes mask memory are there long dropped mixed_is =
     let P : Memory → Type 0 = λ m. IsMerge p (with_memory q m) l bytes mask in
     let bytes_are : new ≡ committed_line (shown p) l bytes mask =
     ap (λ (c : List ℕ). mixed mask (take n bytes) c) copy ∙ ap (λ (k : ℕ). mixed mask (take k bytes) (view_of (shown p) l)) dropped.numbers.line_bytes in
-    let t : Parts = with_memory q (written q.memory l new) in
+    let t : Parts = with_memory q (with_bytes q.memory l new) in
     let tags : (k s : ℕ) → (shown q).tags k s ≡ without_line l ((shown p).tags k s) = λ k s.
     ⊎_elim
     (λ (same : k ≡ h).

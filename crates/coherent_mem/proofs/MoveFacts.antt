@@ -9,17 +9,17 @@ use Rattle.conda_base.specs.declared.Mesi.TheVariants.{M, E, S}
 use Rattle.conda_base.proofs.LineLemmas.{line_bytes_in_memory, line_by_number}
 use Rattle.conda_base.specs.Bytes.{handed_out}
 use Rattle.set_assoc.specs.Entries.{without}
-use Rattle.cpu_cache.specs.Contents.{Content, Contents, IsHeld, content_of, set_list, tag_of, with_set, bytes_in, written_back as handed_back}
+use Rattle.cpu_cache.specs.Contents.{Content, Contents, IsHeld, content_of, set_list, tag_of, with_set, bytes_in, written_back}
 use Rattle.set_assoc.proofs.FindFacts.{list_entries}
 use Rattle.mesi_directory.specs.declared.row.Row.{Row}
-use Rattle.mesi_directory.specs.Rows.{Rows, IsRow, row_of, with_row, has, without as row_without, HasRow}
+use Rattle.mesi_directory.specs.Rows.{Rows, IsRow, row_of, with_row, has_holder, without_holder, HasRow}
 use Rattle.mesi_directory.proofs.RowLemmas.{IsRow-without, held_below, row_of-with_row_same}
 use Rattle.line_memory.specs.Notes.{back_notes}
-use Rattle.line_memory.specs.Memory.{Memory, IsIn, line_of, with_line, written}
+use Rattle.line_memory.specs.Memory.{Memory, IsIn, line_of, with_line, with_bytes}
 use Rattle.line_memory.specs.Tags.{Tag, without_line, held_state}
 use Rattle.line_memory.specs.Backing.{shape_of}
 use Rattle.line_memory.proofs.MemoryLemmas.{with_line-same, bytes_of_line-with_line}
-use Rattle.coherent_mem.specs.Moves.{IsMoved, Edits, HasNoNewDirty, list_at, written_back, backed, backed_notes}
+use Rattle.coherent_mem.specs.Moves.{IsMoved, Edits, HasNoNewDirty, list_at, flushed_copies, backed, backed_notes}
 use Rattle.coherent_mem.specs.Parts.{Parts, AreParts, IsKept, cache_at, held, seen, shown}
 use Rattle.coherent_mem.proofs.CacheFacts.{edit_dropped}
 use Rattle.coherent_mem.proofs.LineFacts.{m_not_s, kept_left, sole, agree, seen_held, seen_all, some_test}
@@ -60,23 +60,23 @@ back_clean p are l h a at apart =
       all = sym (ap (λ b. with_line m.base m.line_bytes m.bytes l.0 b) same ∙ with_line-same m.base m.line_bytes l.0 m.bytes span.0);
     }
 
-pub back_dirty : (p : Parts) → AreParts p → (l : Line) (h : ℕ) (a : Content) → held p l h ≡ Some a → IsBack p.memory l a.bytes (written p.memory l (take p.memory.line_bytes (handed_out a.bytes)))
+pub back_dirty : (p : Parts) → AreParts p → (l : Line) (h : ℕ) (a : Content) → held p l h ≡ Some a → IsBack p.memory l a.bytes (with_bytes p.memory l (take p.memory.line_bytes (handed_out a.bytes)))
 back_dirty p are l h a at =
     let m = p.memory in
     let inside = are.range l h a at in
     let long = content_length p are l h a at in
     let bytes : take m.line_bytes (handed_out a.bytes) ≡ a.bytes = take_at a.bytes (replicate (128 - length a.bytes) 0) m.line_bytes long in
-    let P : List ℕ → Type 0 = λ b. IsBack m l a.bytes (written m l b) in
+    let P : List ℕ → Type 0 = λ b. IsBack m l a.bytes (with_bytes m l b) in
     subst P (sym bytes) (record {
       written = written_line m l a.bytes are.memory inside long;
       own = bytes_of_line-with_line m.base m.line_bytes l.0 m.bytes a.bytes are.memory inside long;
       all = refl;
     })
 
-pub back_content : (p : Parts) → AreParts p → (l : Line) (h : ℕ) (a : Content) → held p l h ≡ Some a → IsBack p.memory l a.bytes (backed p.memory l (handed_back (Some a)))
+pub back_content : (p : Parts) → AreParts p → (l : Line) (h : ℕ) (a : Content) → held p l h ≡ Some a → IsBack p.memory l a.bytes (backed p.memory l (written_back (Some a)))
 back_content p are l h a at = go a.state refl (back_dirty p are l h a at) (back_clean p are l h a at)
   where
-    go : (state : Mesi) → a.state ≡ state → IsBack p.memory l a.bytes (written p.memory l (take p.memory.line_bytes (handed_out a.bytes))) → (a.state ≢ M → IsBack p.memory l a.bytes p.memory) → IsBack p.memory l a.bytes (backed p.memory l (bytes_in state (handed_out a.bytes)))
+    go : (state : Mesi) → a.state ≡ state → IsBack p.memory l a.bytes (with_bytes p.memory l (take p.memory.line_bytes (handed_out a.bytes))) → (a.state ≢ M → IsBack p.memory l a.bytes p.memory) → IsBack p.memory l a.bytes (backed p.memory l (bytes_in state (handed_out a.bytes)))
     go M is dirty clean = dirty
     go E is dirty clean = clean (λ same. let both : E ≡ M = sym is ∙ same in cc)
     go S is dirty clean = clean (λ same. let both : S ≡ M = sym is ∙ same in cc)
@@ -143,9 +143,9 @@ list_entries_of p are h l inside =
     ap (λ n. map tag_of (get_or (cache_at p h).lines.lists (l.0 % n) [])) (sym fits.sets)
 
 pub left : (p : Parts) (h : ℕ) (l : Line) (a : Content) (cache : Contents) (memory : Memory) (rows : Rows) → AreParts p → held p l h ≡ Some a
-    → cache ≡ with_set (cache_at p h) l (without l (set_list (cache_at p h) l)) → memory ≡ backed p.memory l (handed_back (content_of (cache_at p h) l))
-    → rows ≡ with_row p.rows l (row_without (row_of p.rows l) h)
-    → IsMoved (without_line l (list_at (shown p) h l)) (written_back (shown p) l) h l p (moved p h cache memory rows)
+    → cache ≡ with_set (cache_at p h) l (without l (set_list (cache_at p h) l)) → memory ≡ backed p.memory l (written_back (content_of (cache_at p h) l))
+    → rows ≡ with_row p.rows l (without_holder (row_of p.rows l) h)
+    → IsMoved (without_line l (list_at (shown p) h l)) (flushed_copies (shown p) l) h l p (moved p h cache memory rows)
 left p h l a cache memory rows are at cached backed_is rowed =
     let inside = held_inside p l h a at in
     let fits = are.fits h inside in
@@ -154,7 +154,7 @@ left p h l a cache memory rows are at cached backed_is rowed =
     let q : Parts = moved p h cache memory rows in
     let back : IsBack p.memory l a.bytes memory =
     rw backed_is (rw at (back_content p are l h a at)) in
-    let has_it : has (row_of p.rows l) h ≡ true = kept.holders h ∙ some_test (held p l h) a at in
+    let has_it : has_holder (row_of p.rows l) h ≡ true = kept.holders h ∙ some_test (held p l h) a at in
     let row_there = row_in p are l there in
     let row_is : IsRow (row_of p.rows l) = are.rows (l.0 - p.rows.first) in
     let new_row = IsRow-without (row_of p.rows l) h row_is (held_below (row_of p.rows l) h row_is has_it) in
@@ -162,15 +162,15 @@ left p h l a cache memory rows are at cached backed_is rowed =
       sets = refl;
       ways = refl;
       memory = back.written;
-      rows = rw rowed (rowed_line p.rows l (row_without (row_of p.rows l) h) are.rows row_there new_row);
+      rows = rw rowed (rowed_line p.rows l (without_holder (row_of p.rows l) h) are.rows row_there new_row);
       cache = cache;
       caches = refl;
       edited = rw cached (edit_dropped (cache_at p h) l a fits.is at);
     } in
-    let row : row_of rows l ≡ row_without (row_of p.rows l) h = ap (λ d. row_of d l) rowed ∙ row_of-with_row_same p.rows l (row_without (row_of p.rows l) h) row_there in
-    let left_kept : IsKept (held q l) (row_without (row_of p.rows l) h) a.bytes =
+    let row : row_of rows l ≡ without_holder (row_of p.rows l) h = ap (λ d. row_of d l) rowed ∙ row_of-with_row_same p.rows l (without_holder (row_of p.rows l) h) row_there in
+    let left_kept : IsKept (held q l) (without_holder (row_of p.rows l) h) a.bytes =
     kept_left (held p l) (held q l) (row_of p.rows l) (line_of p.memory l) h a kept at (held_here p q h l None inside e) (λ k apart. held_beside p q h k l l None e apart) in
-    let copied : IsKept (held q l) (row_without (row_of p.rows l) h) (line_of memory l) = subst (λ (c : List ℕ). IsKept (held q l) (row_without (row_of p.rows l) h) c) (sym back.own) left_kept in
+    let copied : IsKept (held q l) (without_holder (row_of p.rows l) h) (line_of memory l) = subst (λ (c : List ℕ). IsKept (held q l) (without_holder (row_of p.rows l) h) c) (sym back.own) left_kept in
     let all_kept : IsKept (held q l) (row_of rows l) (line_of memory l) = subst (λ (r : Row). IsKept (held q l) r (line_of memory l)) (sym row) copied in
     let parts : AreParts q = parts_edited p q h l None are inside there e all_kept in
     let was : seen p l ≡ a.bytes = seen_content p are l h a at in
@@ -183,7 +183,7 @@ left p h l a cache memory rows are at cached backed_is rowed =
     (cases_eq k h))
     back.own in
     record {
-      edits = edits_of p q h l None (without l (set_list (cache_at p h) l)) (without_line l (list_at (shown p) h l)) (written_back (shown p) l) are inside e cached
+      edits = edits_of p q h l None (without l (set_list (cache_at p h) l)) (without_line l (list_at (shown p) h l)) (flushed_copies (shown p) l) are inside e cached
           (ap (λ ts. without_line l ts) (list_entries_of p are h l inside) ∙ without_line-map _ _ l (set_list (cache_at p h) l) (list_entries (cache_at p h).lines l fits.is.sets))
           (now ∙ sym was)
           (back.all ∙ ap (λ b. with_line p.memory.base p.memory.line_bytes p.memory.bytes l.0 b) (sym (view_of_shown p are l there ∙ was)));
@@ -200,7 +200,7 @@ pub state_held : (p : Parts) → AreParts p → (l : Line) (h : ℕ) (a : Conten
 state_held p are l h a at = state_shown p are l h ∙ some_state (held p l h) a at
 
 -- the notes of the bytes of a line that came back
-back_noted : (h : ℕ) (l : Line) (a : Content) → backed_notes h l (handed_back (Some a)) ≡ back_notes l h (Some a.state)
+back_noted : (h : ℕ) (l : Line) (a : Content) → backed_notes h l (written_back (Some a)) ≡ back_notes l h (Some a.state)
 back_noted h l a = go a.state a.bytes
   where
     go : (state : Mesi) (bytes : List ℕ) → backed_notes h l (bytes_in state (handed_out bytes)) ≡ back_notes l h (Some state)
@@ -215,29 +215,29 @@ same_read p h one other inside first second = read_cache p h one inside first �
 -- all that leaving a line does, from what the calls in it ensure
 pub record IsLeaving (p : Parts) (h : ℕ) (l : Line) (was : Contents) (back : Option (List ℕ)) (cache : Contents) (memory : Memory) (rows : Rows) : Type 0 where
   pub read : was ≡ get_or p.caches h was
-  pub bytes : back ≡ handed_back (content_of was l)
+  pub bytes : back ≡ written_back (content_of was l)
   pub dropped : cache ≡ with_set was l (without l (set_list was l))
   pub written : memory ≡ backed p.memory l back
-  pub rowed : rows ≡ with_row p.rows l (row_without (row_of p.rows l) h)
+  pub rowed : rows ≡ with_row p.rows l (without_holder (row_of p.rows l) h)
 
 pub leaving : (p : Parts) (h : ℕ) (l : Line) (was : Contents) (back : Option (List ℕ)) (cache : Contents) (memory : Memory) (rows : Rows) → AreParts p → IsSome (held_state (shape_of (shown p)) (shown p).tags h l) → IsLeaving p h l was back cache memory rows
-    → IsMoved (without_line l (list_at (shown p) h l)) (written_back (shown p) l) h l p (moved p h cache memory rows)
+    → IsMoved (without_line l (list_at (shown p) h l)) (flushed_copies (shown p) l) h l p (moved p h cache memory rows)
 leaving p h l was back cache memory rows are is does =
     let a = content_held p are l h is in
     let inside = held_inside p l h a.0 a.1 in
     let read : was ≡ cache_at p h = read_cache p h was inside does.read in
     left p h l a.0 cache memory rows are a.1
     (does.dropped ∙ ap (λ (c : Contents). with_set c l (without l (set_list c l))) read)
-    (does.written ∙ ap (λ b. backed p.memory l b) (does.bytes ∙ ap (λ (c : Contents). handed_back (content_of c l)) read))
+    (does.written ∙ ap (λ b. backed p.memory l b) (does.bytes ∙ ap (λ (c : Contents). written_back (content_of c l)) read))
     does.rowed
 
-pub leaving_noted : (p : Parts) (h : ℕ) (l : Line) (was : Contents) (back : Option (List ℕ)) → AreParts p → IsSome (held_state (shape_of (shown p)) (shown p).tags h l) → was ≡ get_or p.caches h was → back ≡ handed_back (content_of was l)
+pub leaving_noted : (p : Parts) (h : ℕ) (l : Line) (was : Contents) (back : Option (List ℕ)) → AreParts p → IsSome (held_state (shape_of (shown p)) (shown p).tags h l) → was ≡ get_or p.caches h was → back ≡ written_back (content_of was l)
     → backed_notes h l back ≡ back_notes l h (held_state (shape_of (shown p)) (shown p).tags h l)
 leaving_noted p h l was back are is read bytes =
     let a = content_held p are l h is in
     let inside = held_inside p l h a.0 a.1 in
     let cache : was ≡ cache_at p h = read_cache p h was inside read in
-    ap (λ b. backed_notes h l b) (bytes ∙ ap (λ (c : Contents). handed_back (content_of c l)) cache ∙ ap handed_back a.1) ∙
+    ap (λ b. backed_notes h l b) (bytes ∙ ap (λ (c : Contents). written_back (content_of c l)) cache ∙ ap written_back a.1) ∙
     back_noted h l a.0 ∙
     ap (λ o. back_notes l h o) (sym (state_held p are l h a.0 a.1))
 
@@ -247,7 +247,7 @@ pub record CanLeave (p : Parts) (h : ℕ) (l : Line) (was : Contents) : Type 0 w
   pub held : IsHeld was l
   pub inside : IsIn p.memory l
   pub row : HasRow p.rows l
-  pub has : has (row_of p.rows l) h ≡ true
+  pub has : has_holder (row_of p.rows l) h ≡ true
 
 pub can_leave : (p : Parts) (h : ℕ) (l : Line) (was : Contents) → AreParts p → IsSome (held_state (shape_of (shown p)) (shown p).tags h l) → was ≡ get_or p.caches h was → CanLeave p h l was
 can_leave p h l was are is read =

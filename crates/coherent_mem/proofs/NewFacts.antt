@@ -9,9 +9,9 @@ use Rattle.conda_base.specs.declared.Line.{Line}
 use Rattle.conda_base.proofs.LineLemmas.{line_bytes_in_memory, whole_split}
 use Rattle.conda_base.specs.Lines.{IsLineSize}
 use Rattle.set_assoc.specs.Entries.{lookup}
-use Rattle.cpu_cache.specs.Contents.{Content, Contents, content_of, tag_of, IsCache, empty, tags_of}
+use Rattle.cpu_cache.specs.Contents.{Content, Contents, content_of, tag_of, IsCache, no_contents, tags_of}
 use Rattle.mesi_directory.specs.declared.row.Row.TheVariants.{Nobody}
-use Rattle.mesi_directory.specs.Rows.{Rows, row_of, has}
+use Rattle.mesi_directory.specs.Rows.{Rows, row_of, has_holder}
 use Rattle.line_memory.specs.Memory.{Memory, IsMemory, line_of}
 use Rattle.line_memory.specs.Tags.{each_below}
 use Rattle.line_memory.proofs.MemoryLemmas.{bytes_of_line-in}
@@ -29,13 +29,13 @@ repeated n i x =
     ⊎_elim (λ (inside : i < n). get_or-replicate n i x x inside)
     (λ (past : n ≤ i). get_or_past (replicate n x) i x (rw (length-replicate n x) past)) (cases_lt i n)
 
-empty_tags : (n sets ways s : ℕ) → tags_of (empty n sets ways) s ≡ []
+empty_tags : (n sets ways s : ℕ) → tags_of (no_contents n sets ways) s ≡ []
 empty_tags n sets ways s = ap (λ es. map tag_of es) (repeated sets s [])
 
-empty_content : (n sets ways : ℕ) (l : Line) → content_of (empty n sets ways) l ≡ None
+empty_content : (n sets ways : ℕ) (l : Line) → content_of (no_contents n sets ways) l ≡ None
 empty_content n sets ways l = ap (λ es. lookup l es) (repeated sets (l.0 % length (replicate {A = List (Line × Content)} sets [])) [])
 
-empty_cache : (n sets ways : ℕ) → IsLineSize n → 0 < sets → 0 < ways → ways ≤ 8 → IsCache (empty n sets ways)
+empty_cache : (n sets ways : ℕ) → IsLineSize n → 0 < sets → 0 < ways → ways ≤ 8 → IsCache (no_contents n sets ways)
 empty_cache n sets ways size some some_ways few = record {
   size = size;
   sets = record {
@@ -59,25 +59,25 @@ pub record IsNew (p : Parts) (holders : ℕ) : Type 0 where
   pub few_ways : p.ways ≤ 8
   pub first : p.rows.first ≡ first_line p
   pub rows : p.rows.rows ≡ replicate (line_count p) Nobody
-  pub caches : p.caches ≡ replicate holders (empty p.memory.line_bytes p.sets p.ways)
+  pub caches : p.caches ≡ replicate holders (no_contents p.memory.line_bytes p.sets p.ways)
 
-cache_new : (p : Parts) (holders h : ℕ) → IsNew p holders → (cache_at p h ≡ empty p.memory.line_bytes p.sets p.ways) ⊎ (cache_at p h ≡ empty 0 0 0)
+cache_new : (p : Parts) (holders h : ℕ) → IsNew p holders → (cache_at p h ≡ no_contents p.memory.line_bytes p.sets p.ways) ⊎ (cache_at p h ≡ no_contents 0 0 0)
 cache_new p holders h is =
     ⊎_elim
-    (λ (inside : h < holders). inl (ap (λ cs. get_or cs h (empty 0 0 0)) is.caches ∙ get_or-replicate holders h (empty p.memory.line_bytes p.sets p.ways) (empty 0 0 0) inside))
-    (λ (past : holders ≤ h). inr (ap (λ cs. get_or cs h (empty 0 0 0)) is.caches ∙ get_or_past (replicate holders (empty p.memory.line_bytes p.sets p.ways)) h (empty 0 0 0) (rw (length-replicate holders (empty p.memory.line_bytes p.sets p.ways)) past)))
+    (λ (inside : h < holders). inl (ap (λ cs. get_or cs h (no_contents 0 0 0)) is.caches ∙ get_or-replicate holders h (no_contents p.memory.line_bytes p.sets p.ways) (no_contents 0 0 0) inside))
+    (λ (past : holders ≤ h). inr (ap (λ cs. get_or cs h (no_contents 0 0 0)) is.caches ∙ get_or_past (replicate holders (no_contents p.memory.line_bytes p.sets p.ways)) h (no_contents 0 0 0) (rw (length-replicate holders (no_contents p.memory.line_bytes p.sets p.ways)) past)))
     (cases_lt h holders)
 
 none_held : (p : Parts) (holders : ℕ) → IsNew p holders → (l : Line) (h : ℕ) → held p l h ≡ None
 none_held p holders is l h =
     ⊎_elim
-    (λ (one : cache_at p h ≡ empty p.memory.line_bytes p.sets p.ways). ap (λ (c : Contents). content_of c l) one ∙ empty_content p.memory.line_bytes p.sets p.ways l)
-    (λ (none : cache_at p h ≡ empty 0 0 0). ap (λ (c : Contents). content_of c l) none ∙ empty_content 0 0 0 l)
+    (λ (one : cache_at p h ≡ no_contents p.memory.line_bytes p.sets p.ways). ap (λ (c : Contents). content_of c l) one ∙ empty_content p.memory.line_bytes p.sets p.ways l)
+    (λ (none : cache_at p h ≡ no_contents 0 0 0). ap (λ (c : Contents). content_of c l) none ∙ empty_content 0 0 0 l)
     (cache_new p holders h is)
 
 pub new_parts : (p : Parts) (holders : ℕ) → IsNew p holders → AreParts p
 new_parts p holders is =
-    let count : length p.caches ≡ holders = ap length is.caches ∙ length-replicate holders (empty p.memory.line_bytes p.sets p.ways) in
+    let count : length p.caches ≡ holders = ap length is.caches ∙ length-replicate holders (no_contents p.memory.line_bytes p.sets p.ways) in
     record {
       memory = is.memory;
       few = rw count is.few;
@@ -86,10 +86,10 @@ new_parts p holders is =
       some_ways = is.some_ways;
       few_ways = is.few_ways;
       fits = λ h inside.
-          let one : cache_at p h ≡ empty p.memory.line_bytes p.sets p.ways =
-          ap (λ cs. get_or cs h (empty 0 0 0)) is.caches ∙ get_or-replicate holders h (empty p.memory.line_bytes p.sets p.ways) (empty 0 0 0) (rw count at inside) in
+          let one : cache_at p h ≡ no_contents p.memory.line_bytes p.sets p.ways =
+          ap (λ cs. get_or cs h (no_contents 0 0 0)) is.caches ∙ get_or-replicate holders h (no_contents p.memory.line_bytes p.sets p.ways) (no_contents 0 0 0) (rw count at inside) in
           let P : Contents → Type 0 = λ c. FitsIn p c in
-          let fits : FitsIn p (empty p.memory.line_bytes p.sets p.ways) = record {
+          let fits : FitsIn p (no_contents p.memory.line_bytes p.sets p.ways) = record {
             is = empty_cache p.memory.line_bytes p.sets p.ways is.memory.size is.some_sets is.some_ways is.few_ways;
             line_bytes = refl;
             sets = length-replicate {A = List (Line × Content)} p.sets [];
@@ -102,7 +102,7 @@ new_parts p holders is =
       range = λ l h a at. absurd (none_not_some (held p l h) a (none_held p holders is l h) at);
       kept = λ l there. let row : row_of p.rows l ≡ Nobody = ap (λ rs. get_or rs (l.0 - p.rows.first) Nobody) is.rows ∙ repeated (line_count p) (l.0 - p.rows.first) Nobody in
           record {
-            holders = λ h. ap (λ r. has r h) row ∙ ap (λ n. eqb n 1) (bit_at-zero h) ∙ sym (ap is_some (none_held p holders is l h));
+            holders = λ h. ap (λ r. has_holder r h) row ∙ ap (λ n. eqb n 1) (bit_at-zero h) ∙ sym (ap is_some (none_held p holders is l h));
             owner = λ h a at. absurd (none_not_some (held p l h) a (none_held p holders is l h) at);
             owned = λ h a at. absurd (none_not_some (held p l h) a (none_held p holders is l h) at);
             clean = λ h a at. absurd (none_not_some (held p l h) a (none_held p holders is l h) at);
@@ -134,20 +134,20 @@ new_view p holders is =
 
 pub new_tags : (p : Parts) (holders : ℕ) → IsNew p holders → (h s : ℕ) → (shown p).tags h s ≡ []
 new_tags p holders is h s = ⊎_elim
-    (λ (one : cache_at p h ≡ empty p.memory.line_bytes p.sets p.ways). ap (λ (c : Contents). tags_of c s) one ∙ empty_tags p.memory.line_bytes p.sets p.ways s)
-    (λ (none : cache_at p h ≡ empty 0 0 0). ap (λ (c : Contents). tags_of c s) none ∙ empty_tags 0 0 0 s)
+    (λ (one : cache_at p h ≡ no_contents p.memory.line_bytes p.sets p.ways). ap (λ (c : Contents). tags_of c s) one ∙ empty_tags p.memory.line_bytes p.sets p.ways s)
+    (λ (none : cache_at p h ≡ no_contents 0 0 0). ap (λ (c : Contents). tags_of c s) none ∙ empty_tags 0 0 0 s)
     (cache_new p holders h is)
 
 pub new_unused : (p : Parts) (holders : ℕ) → IsNew p holders → shown p ≡ unused p.memory.line_bytes holders p.sets p.ways p.memory.base p.memory.bytes
 new_unused p holders is = same_backing (shown p) (unused p.memory.line_bytes holders p.sets p.ways p.memory.base p.memory.bytes)
-    refl refl (ap length is.caches ∙ length-replicate holders (empty p.memory.line_bytes p.sets p.ways)) refl refl
+    refl refl (ap length is.caches ∙ length-replicate holders (no_contents p.memory.line_bytes p.sets p.ways)) refl refl
     (new_view p holders is) refl (fun_ext (λ h. fun_ext (λ s. new_tags p holders is h s)))
 
 -- the parts that are made
 pub record IsMade (p : Parts) (n base : ℕ) (bytes : List ℕ) (holders : ℕ) : Type 0 where
   pub memory : p.memory ≡ record { line_bytes = n; base = base; bytes = bytes }
   pub rows : p.rows ≡ record { first = base / n; rows = replicate (length bytes / n) Nobody }
-  pub caches : p.caches ≡ replicate holders (empty n p.sets p.ways)
+  pub caches : p.caches ≡ replicate holders (no_contents n p.sets p.ways)
 
 pub made : (p : Parts) (n base holders : ℕ) (bytes : List ℕ) → IsMade p n base bytes holders → IsMemory n base (length bytes) → holders ≤ 12 → 0 < p.sets → p.sets ≤ 256 → 0 < p.ways → p.ways ≤ 8 → IsNew p holders
 made p n base holders bytes is memory few some_sets few_sets some_ways few_ways = record {
@@ -159,7 +159,7 @@ made p n base holders bytes is memory few some_sets few_sets some_ways few_ways 
   few_ways = few_ways;
   first = ap (λ (d : Rows). d.first) is.rows ∙ sym (ap (λ (m : Memory). m.base / m.line_bytes) is.memory);
   rows = ap (λ (d : Rows). d.rows) is.rows ∙ sym (ap (λ (m : Memory). replicate (length m.bytes / m.line_bytes) Nobody) is.memory);
-  caches = is.caches ∙ sym (ap (λ (m : Memory). replicate holders (empty m.line_bytes p.sets p.ways)) is.memory);
+  caches = is.caches ∙ sym (ap (λ (m : Memory). replicate holders (no_contents m.line_bytes p.sets p.ways)) is.memory);
 }
 
 pub made_unused : (p : Parts) (n base holders : ℕ) (bytes : List ℕ) → IsMade p n base bytes holders → IsNew p holders → shown p ≡ unused n holders p.sets p.ways base bytes

@@ -5,12 +5,12 @@ use Rattle.std.proofs.lemmas.Bool.{cases_eq, cases_lt}
 use Rattle.conda_base.specs.Lines.{IsLineOf}
 use Rattle.conda_base.specs.declared.Line.{Line}
 use Rattle.conda_base.proofs.LineLemmas.{line_bytes_in_memory, line_by_number}
-use Rattle.cpu_cache.specs.Contents.{Content, Contents, content_of, empty}
+use Rattle.cpu_cache.specs.Contents.{Content, Contents, content_of, no_contents}
 use Rattle.mesi_directory.specs.declared.row.Row.{Row}
 use Rattle.mesi_directory.specs.declared.row.Row.TheVariants.{Nobody}
 use Rattle.mesi_directory.specs.Rows.{Rows, AreRows, IsRow, HasRow, row_of, with_row}
 use Rattle.mesi_directory.proofs.RowLemmas.{row_of-with_row_other}
-use Rattle.line_memory.specs.Memory.{Memory, IsMemory, IsIn, line_of, written}
+use Rattle.line_memory.specs.Memory.{Memory, IsMemory, IsIn, line_of, with_bytes}
 use Rattle.line_memory.specs.Tags.{each_below}
 use Rattle.line_memory.proofs.MemoryLemmas.{length-with_line, bytes_of_line-with_line_other}
 use Rattle.line_memory.proofs.WalkLemmas.{each_same}
@@ -56,7 +56,7 @@ row_in p are l is = record {
 pub written_none : (m : Memory) (l : Line) → IsWritten m l m
 written_none m l = record { line_bytes = refl; base = refl; size = refl; others = λ a is apart. refl }
 
-pub written_line : (m : Memory) (l : Line) (bytes : List ℕ) → IsMemory m.line_bytes m.base (length m.bytes) → IsIn m l → length bytes ≡ m.line_bytes → IsWritten m l (written m l bytes)
+pub written_line : (m : Memory) (l : Line) (bytes : List ℕ) → IsMemory m.line_bytes m.base (length m.bytes) → IsIn m l → length bytes ≡ m.line_bytes → IsWritten m l (with_bytes m l bytes)
 written_line m l bytes is inside long =
     let span = line_bytes_in_memory m.base (length m.bytes) m.line_bytes l.0 is.size is.whole_base is.whole_bytes inside in
     record {
@@ -82,10 +82,10 @@ rowed_line d l row are inside is = record {
 
 -- the caches after the change
 pub cache_same : (p q : Parts) (h : ℕ) (l : Line) (x : Option Content) → h < length p.caches → (e : IsPartEdit p h l x q) → cache_at q h ≡ e.cache
-cache_same p q h l x inside e = ap (λ cs. get_or cs h (empty 0 0 0)) e.caches ∙ get_or-set_same p.caches h e.cache (empty 0 0 0) inside
+cache_same p q h l x inside e = ap (λ cs. get_or cs h (no_contents 0 0 0)) e.caches ∙ get_or-set_same p.caches h e.cache (no_contents 0 0 0) inside
 
 pub cache_beside : (p q : Parts) (h k : ℕ) (l : Line) (x : Option Content) → IsPartEdit p h l x q → k ≢ h → cache_at q k ≡ cache_at p k
-cache_beside p q h k l x e apart = ap (λ cs. get_or cs k (empty 0 0 0)) e.caches ∙ get_or-set_other p.caches h k e.cache (empty 0 0 0) apart
+cache_beside p q h k l x e apart = ap (λ cs. get_or cs k (no_contents 0 0 0)) e.caches ∙ get_or-set_other p.caches h k e.cache (no_contents 0 0 0) apart
 
 pub held_here : (p q : Parts) (h : ℕ) (l : Line) (x : Option Content) → h < length p.caches → IsPartEdit p h l x q → held q l h ≡ x
 held_here p q h l x inside e = ap (λ c. content_of c l) (cache_same p q h l x inside e) ∙ e.edited.here

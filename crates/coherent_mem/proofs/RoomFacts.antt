@@ -19,7 +19,7 @@ use Rattle.traffic_trace.specs.declared.note.Kind.TheVariants.{Evict}
 use Rattle.line_memory.specs.Notes.{note_of, back_notes, evict_notes, room_notes, last_notes, all_noted}
 use Rattle.line_memory.specs.Tags.{Tag, without_line, held_state}
 use Rattle.line_memory.specs.Backing.{shape_of}
-use Rattle.coherent_mem.specs.Moves.{gone_notes, IsMoved, list_at, written_back, MakesRoom, relisted}
+use Rattle.coherent_mem.specs.Moves.{gone_notes, IsMoved, list_at, flushed_copies, MakesRoom, relisted}
 use Rattle.coherent_mem.specs.Parts.{Parts, AreParts, cache_at, held, shown}
 use Rattle.coherent_mem.proofs.TagFacts.{without_line-map}
 use Rattle.coherent_mem.proofs.MoveFacts.{list_entries_of, state_held, read_cache}
@@ -81,7 +81,7 @@ short_list p are h l inside =
 
 -- the line at the last way has left
 pub room_made : (p q : Parts) (h : ℕ) (l : Line) (tag : Tag) → AreParts p → h < length p.caches → slice_get (list_at (shown p) h l) (p.ways - 1) ≡ Some tag
-    → IsMoved (without_line tag.0 (list_at (shown p) h tag.0)) (written_back (shown p) tag.0) h tag.0 p q → MakesRoom h l p q (Some tag)
+    → IsMoved (without_line tag.0 (list_at (shown p) h tag.0)) (flushed_copies (shown p) tag.0) h tag.0 p q → MakesRoom h l p q (Some tag)
 room_made p q h l tag are inside at is =
     let there = listed p are h l (p.ways - 1) tag inside at in
     let short = short_list p are h l inside in

@@ -12,11 +12,11 @@ use Rattle.conda_base.specs.declared.Line.{Line}
 use Rattle.conda_base.specs.declared.Mesi.{Mesi}
 use Rattle.conda_base.specs.declared.Mesi.TheVariants.{M, E, S}
 use Rattle.set_assoc.specs.Entries.{lookup, AreEntries}
-use Rattle.cpu_cache.specs.Contents.{Content, Contents, content_of, set_list, tag_of, empty, tags_of}
+use Rattle.cpu_cache.specs.Contents.{Content, Contents, content_of, set_list, tag_of, no_contents, tags_of}
 use Rattle.set_assoc.proofs.FindFacts.{list_entries, apart_by_test}
 use Rattle.mesi_directory.specs.declared.row.Row.{Row}
 use Rattle.mesi_directory.specs.declared.row.Row.TheVariants.{Nobody, Owner, Shared}
-use Rattle.mesi_directory.specs.Rows.{IsRow, row_of, has}
+use Rattle.mesi_directory.specs.Rows.{IsRow, row_of, has_holder}
 use Rattle.mesi_directory.proofs.RowLemmas.{has-owner}
 use Rattle.line_memory.specs.Notes.{all_notes, down_notes}
 use Rattle.line_memory.specs.Owners.{is_owner}
@@ -25,7 +25,7 @@ use Rattle.line_memory.specs.Tags.{Tag, held_state, some_below}
 use Rattle.line_memory.proofs.BelowLemmas.{none_at, none_found, some_found}
 use Rattle.line_memory.specs.Backing.{shape_of}
 use Rattle.line_memory.specs.Access.{shared_line}
-use Rattle.coherent_mem.specs.Moves.{IsMoved, Edits, list_at, written_back, IsShared}
+use Rattle.coherent_mem.specs.Moves.{IsMoved, Edits, list_at, flushed_copies, IsShared}
 use Rattle.coherent_mem.specs.Parts.{Parts, AreParts, cache_at, held, shown}
 use Rattle.coherent_mem.proofs.CacheFacts.{test_off}
 use Rattle.coherent_mem.proofs.LineFacts.{cases_Option, some_test, cases_S, beside_owner, none_not_some, none_by_test}
@@ -61,7 +61,7 @@ list_shared p are l k shared =
     (λ (some : (a : Content) × (held p l k ≡ Some a)). shared_line-same _ _ l some.0 (set_list (cache_at p k) l) entries some.1 (shared some.0 some.1))
     (cases_Option (held p l k)) ∙ sym same)
     (λ (past : length p.caches ≤ k).
-    let none : cache_at p k ≡ empty 0 0 0 = get_or_past p.caches k (empty 0 0 0) past in
+    let none : cache_at p k ≡ no_contents 0 0 0 = get_or_past p.caches k (no_contents 0 0 0) past in
     ap (λ (c : Contents). shared_line l (tags_of c (l.0 % p.sets))) none ∙ sym (ap (λ (c : Contents). tags_of c (l.0 % p.sets)) none))
     (cases_lt k (length p.caches))
 
@@ -119,7 +119,7 @@ state_none None is = refl
 state_none (Some a) is = absurd cc
 
 -- the owner of a line has become one of its sharers
-pub shared_from_owner : (p q : Parts) (l : Line) (o : ℕ) (a : Content) → AreParts p → held p l o ≡ Some a → a.state ≢ S → IsMoved (shared_line l (list_at (shown p) o l)) (written_back (shown p) l) o l p q → IsShared l S p q
+pub shared_from_owner : (p q : Parts) (l : Line) (o : ℕ) (a : Content) → AreParts p → held p l o ≡ Some a → a.state ≢ S → IsMoved (shared_line l (list_at (shown p) o l)) (flushed_copies (shown p) l) o l p q → IsShared l S p q
 shared_from_owner p q l o a are at owns is =
     let inside = held_inside p l o a at in
     let kept = are.kept l (are.range l o a at) in
@@ -165,7 +165,7 @@ noted_from_owner p l o a are at owns =
 pub row_owner : (p : Parts) (l : Line) (o : ℕ) → AreParts p → IsIn p.memory l → row_of p.rows l ≡ Owner o → (a : Content) × (held p l o ≡ Some a) × (a.state ≢ S)
 row_owner p l o are there row =
     let kept = are.kept l there in
-    let has_it : is_some (held p l o) ≡ true = sym (kept.holders o) ∙ ap (λ r. has r o) row ∙ has-owner o o ∙ eq-eqb o o refl in
+    let has_it : is_some (held p l o) ≡ true = sym (kept.holders o) ∙ ap (λ r. has_holder r o) row ∙ has-owner o o ∙ eq-eqb o o refl in
     ⊎_elim
     (λ (none : held p l o ≡ None). let both : false ≡ true = sym (ap is_some none) ∙ has_it in absurd cc)
     (λ (some : (a : Content) × (held p l o ≡ Some a)). (some.0, some.1, kept.owned o some.0 some.1 row))
@@ -177,16 +177,16 @@ row_shared p l are there apart k a at =
 
 pub row_nobody : (p : Parts) (l : Line) → AreParts p → IsIn p.memory l → row_of p.rows l ≡ Nobody → (k : ℕ) → held p l k ≡ None
 row_nobody p l are there row k =
-    none_by_test (held p l k) (sym ((are.kept l there).holders k) ∙ ap (λ r. has r k) row ∙ nobody k)
+    none_by_test (held p l k) (sym ((are.kept l there).holders k) ∙ ap (λ r. has_holder r k) row ∙ nobody k)
   where
-    nobody : (k : ℕ) → has Nobody k ≡ false
+    nobody : (k : ℕ) → has_holder Nobody k ≡ false
     nobody k = ap (λ n. eqb n 1) (bit_at-zero k)
 
 none_below : (p : Parts) (l : Line) → some_below (length p.caches) (λ k. is_some (held p l k)) ≡ false → (k : ℕ) → held p l k ≡ None
 none_below p l none k =
     ⊎_elim
     (λ (inside : k < length p.caches). none_by_test (held p l k) (none_at (length p.caches) k (λ k. is_some (held p l k)) none inside))
-    (λ (past : length p.caches ≤ k). ap (λ (c : Contents). content_of c l) (get_or_past p.caches k (empty 0 0 0) past))
+    (λ (past : length p.caches ≤ k). ap (λ (c : Contents). content_of c l) (get_or_past p.caches k (no_contents 0 0 0) past))
     (cases_lt k (length p.caches))
 
 -- some holder has a line whose row has sharers
@@ -195,7 +195,7 @@ some_sharer p l bits are there row some =
     ⊎_elim (λ yes. yes)
     (λ (none : some_below (length p.caches) (λ k. is_some (held p l k)) ≡ false).
     let off : (k : ℕ) → eqb (bit_at bits k) 1 ≡ false =
-    λ k. ap (λ r. has r k) (sym row) ∙ (are.kept l there).holders k ∙ ap is_some (none_below p l none k) in
+    λ k. ap (λ r. has_holder r k) (sym row) ∙ (are.kept l there).holders k ∙ ap is_some (none_below p l none k) in
     let zero_bits : bits ≡ 0 = same_from_bits bits 0 (λ k.
     let small = bit_at-lt bits k in
     let apart : bit_at bits k ≢ 1 = apart_by_test _ _ (off k) in
@@ -235,7 +235,7 @@ shared_sharers p l bits are there row some =
 pub noted_sharers : (p : Parts) (l : Line) (bits : ℕ) → AreParts p → IsIn p.memory l → row_of p.rows l ≡ Shared bits → all_notes down_notes (shape_of (shown p)) (shown p).tags l ≡ []
 noted_sharers p l bits are there row = noted_already p l are (row_shared p l are there (apart_of_shared p l bits row))
 
-pub shared_owner : (p q : Parts) (l : Line) (o : ℕ) → AreParts p → IsIn p.memory l → row_of p.rows l ≡ Owner o → IsMoved (shared_line l (list_at (shown p) o l)) (written_back (shown p) l) o l p q → IsShared l S p q
+pub shared_owner : (p q : Parts) (l : Line) (o : ℕ) → AreParts p → IsIn p.memory l → row_of p.rows l ≡ Owner o → IsMoved (shared_line l (list_at (shown p) o l)) (flushed_copies (shown p) l) o l p q → IsShared l S p q
 shared_owner p q l o are there row is = let a = row_owner p l o are there row in shared_from_owner p q l o a.0 are a.1 a.2 is
 
 pub noted_owner : (p : Parts) (l : Line) (o : ℕ) → AreParts p → IsIn p.memory l → row_of p.rows l ≡ Owner o → all_notes down_notes (shape_of (shown p)) (shown p).tags l ≡ down_notes l o (held_state (shape_of (shown p)) (shown p).tags o l)

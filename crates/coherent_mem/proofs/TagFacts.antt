@@ -8,7 +8,7 @@ use Rattle.conda_base.specs.declared.Line.{Line}
 use Rattle.conda_base.specs.declared.Mesi.{Mesi}
 use Rattle.conda_base.specs.declared.Mesi.TheVariants.{S}
 use Rattle.set_assoc.specs.Entries.{lookup, without, replaced, AreEntries}
-use Rattle.cpu_cache.specs.Contents.{Content, Contents, content_of, set_list, tag_of, tags_of, with_set, empty}
+use Rattle.cpu_cache.specs.Contents.{Content, Contents, content_of, set_list, tag_of, tags_of, with_set, no_contents}
 use Rattle.line_memory.specs.Tags.{Tag, without_line, held_state}
 use Rattle.line_memory.specs.Access.{shared_line}
 use Rattle.line_memory.specs.Backing.{shape_of}
@@ -35,7 +35,7 @@ state_shown p are l h =
     let fits = are.fits h inside in
     ap (λ n. lookup l (tags_of (cache_at p h) (l.0 % n))) (sym fits.sets) ∙ lookup-map l (set_list (cache_at p h) l))
     (λ (past : length p.caches ≤ h).
-    let none : cache_at p h ≡ empty 0 0 0 = get_or_past p.caches h (empty 0 0 0) past in
+    let none : cache_at p h ≡ no_contents 0 0 0 = get_or_past p.caches h (no_contents 0 0 0) past in
     ap (λ (c : Contents). lookup l (tags_of c (l.0 % p.sets))) none ∙ sym (ap (λ (c : Contents). option_map state_of_content (content_of c l)) none))
     (cases_lt h (length p.caches))
 

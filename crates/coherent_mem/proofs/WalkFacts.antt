@@ -8,7 +8,7 @@ use Rattle.conda_base.specs.declared.Line.{Line}
 use Rattle.conda_base.specs.declared.Mesi.{Mesi}
 use Rattle.conda_base.specs.declared.Mesi.TheVariants.{M, E, S}
 use Rattle.line_memory.specs.Tags.{Tag, is_modified}
-use Rattle.line_memory.specs.Backing.{BackingView, IsFirstDirty, dirty_from, place_of}
+use Rattle.line_memory.specs.Backing.{BackingView, IsFirstDirty, dirty_from, way_place}
 use Rattle.line_memory.proofs.WalkLemmas.{each_empty, dirty_from-step, modified_at, modified_from-past}
 use Rattle.line_memory.proofs.MemberLemmas.{cons_here, cons_later}
 use Rattle.coherent_mem.specs.Marked.{AreMarked, IsCleanFrom, IsFirstModified, is_m_at}
@@ -21,26 +21,26 @@ nothing_at None is = refl
 nothing_at (Some tag) is = rw is refl
 
 -- the walk along ways whose lines aren't in M
-walk_ways : (b : BackingView) (h s from n : ℕ) → ((k i : ℕ) → length (b.tags k i) ≤ b.ways) → h < b.holders → s < b.sets → from + n ≤ b.ways → IsCleanFrom (b.tags h s) from (from + n) → dirty_from b (place_of b h s from) ≡ dirty_from b (place_of b h s (from + n))
-walk_ways b h s from zero short inside below within clean = let same : from ≡ from + 0 = omega arith in ap (λ w. dirty_from b (place_of b h s w)) same
+walk_ways : (b : BackingView) (h s from n : ℕ) → ((k i : ℕ) → length (b.tags k i) ≤ b.ways) → h < b.holders → s < b.sets → from + n ≤ b.ways → IsCleanFrom (b.tags h s) from (from + n) → dirty_from b (way_place b h s from) ≡ dirty_from b (way_place b h s (from + n))
+walk_ways b h s from zero short inside below within clean = let same : from ≡ from + 0 = omega arith in ap (λ w. dirty_from b (way_place b h s w)) same
 walk_ways b h s from (suc n) short inside below within clean =
-    let next : place_of b h s (from + n) + 1 ≡ place_of b h s (from + suc n) = omega arith in
+    let next : way_place b h s (from + n) + 1 ≡ way_place b h s (from + suc n) = omega arith in
     walk_ways b h s from n short inside below (omega arith) (λ k after before. clean k after (omega arith)) ∙
     dirty_from-step b h s (from + n) short inside below (omega arith) ∙
-    ap (λ ls. ls ++ dirty_from b (place_of b h s (from + n) + 1)) (nothing_at (slice_get (b.tags h s) (from + n)) (clean (from + n) (omega arith) (omega arith))) ∙
+    ap (λ ls. ls ++ dirty_from b (way_place b h s (from + n) + 1)) (nothing_at (slice_get (b.tags h s) (from + n)) (clean (from + n) (omega arith) (omega arith))) ∙
     ap (λ k. dirty_from b k) next
 
-walk_to : (b : BackingView) (h s from end : ℕ) → ((k i : ℕ) → length (b.tags k i) ≤ b.ways) → h < b.holders → s < b.sets → from ≤ end → end ≤ b.ways → IsCleanFrom (b.tags h s) from end → dirty_from b (place_of b h s from) ≡ dirty_from b (place_of b h s end)
+walk_to : (b : BackingView) (h s from end : ℕ) → ((k i : ℕ) → length (b.tags k i) ≤ b.ways) → h < b.holders → s < b.sets → from ≤ end → end ≤ b.ways → IsCleanFrom (b.tags h s) from end → dirty_from b (way_place b h s from) ≡ dirty_from b (way_place b h s end)
 walk_to b h s from end short inside below order within clean =
     let gap : from + (end - from) ≡ end = omega arith in
-    subst (λ (e : ℕ). dirty_from b (place_of b h s from) ≡ dirty_from b (place_of b h s e)) gap
+    subst (λ (e : ℕ). dirty_from b (way_place b h s from) ≡ dirty_from b (way_place b h s e)) gap
     (walk_ways b h s from (end - from) short inside below (omega arith) (λ k after before. clean k after (omega arith)))
 
 -- the set of a mark
 pub record IsSetOf (b : BackingView) (mark : ℕ) : Type 0 where
   pub holder : mark / b.sets < b.holders
   pub set : mark % b.sets < b.sets
-  pub place : (way : ℕ) → mark * b.ways + way ≡ place_of b (mark / b.sets) (mark % b.sets) way
+  pub place : (way : ℕ) → mark * b.ways + way ≡ way_place b (mark / b.sets) (mark % b.sets) way
 
 pub set_of_mark : (b : BackingView) (mark : ℕ) → 0 < b.sets → mark < b.holders * b.sets → IsSetOf b mark
 set_of_mark b mark some below = record {
@@ -95,7 +95,7 @@ walk_past p from are past =
     let few = short h s in
     let order : h * p.sets + s < length p.caches * p.sets = omega (arith, mul-add-lt h p.sets s (length p.caches) inside below) in
     let gap = mul-le-mul_left p.ways order in
-    modified_from-past from (place_of (shown p) h s 0) ((shown p).tags h s) (omega arith)))
+    modified_from-past from (way_place (shown p) h s 0) ((shown p).tags h s) (omega arith)))
 
 -- the first dirty line
 pub found_dirty : (p : Parts) (from mark start way : ℕ) (l : Line) → AreParts p → mark < length p.caches * p.sets → from ≤ mark * p.ways + start → dirty_from (shown p) from ≡ dirty_from (shown p) (mark * p.ways + start)
@@ -114,7 +114,7 @@ found_dirty p from mark start way l are below after skipped is =
       below = omega (arith, mul-add-lt mark p.ways way (length p.caches * p.sets) below low);
       skipped = skipped ∙ ap (λ k. dirty_from b k) (at.place start) ∙ walk_to b h s start way backing.short at.holder at.set order (omega arith) is.skipped ∙ ap (λ k. dirty_from b k) (sym (at.place way));
       first = ap (λ k. dirty_from b k) (at.place way) ∙ dirty_from-step b h s way backing.short at.holder at.set low ∙
-          ap (λ (o : Option Tag). modified_at o ++ dirty_from b (place_of b h s way + 1)) is.here ∙
+          ap (λ (o : Option Tag). modified_at o ++ dirty_from b (way_place b h s way + 1)) is.here ∙
           ap (λ k. l ∷ dirty_from b (k + 1)) (sym (at.place way));
       is_dirty = state_dirty p are l h told.state;
       in_range = range_of p are l told.inside;

@@ -3,7 +3,7 @@ use Rattle.std.specs.Prelude.{ℕ, ◌≡◌, ◌↔◌, ◌/◌, true, length, 
 use Rattle.conda_base.specs.declared.Line.{Line}
 use Rattle.cpu_cache.specs.Contents.{Contents, IsHeld, bytes_of, state_of, tags_of}
 use Rattle.mesi_directory.specs.declared.row.Row.TheVariants.{Owner}
-use Rattle.mesi_directory.specs.Rows.{Rows, HasRow, has, row_of}
+use Rattle.mesi_directory.specs.Rows.{Rows, HasRow, has_holder, row_of}
 use Rattle.line_memory.specs.Memory.{Memory}
 use Rattle.line_memory.specs.Tags.{held_state}
 use Rattle.line_memory.specs.Owners.{is_owner}
@@ -25,10 +25,10 @@ pub record IsDirectoryOf (b : BackingView) (d : Rows) : Type 0 where
   pub count : length d.rows ≡ length b.view / b.line_bytes
   pub range : (l : Line) → IsInRange b l → HasRow d l
   pub holders : (l : Line) → IsInRange b l → (h : ℕ) →
-      has (row_of d l) h ≡ is_some (held_state (shape_of b) b.tags h l)
+      has_holder (row_of d l) h ≡ is_some (held_state (shape_of b) b.tags h l)
   pub owner : (l : Line) → IsInRange b l → (h : ℕ) →
       (row_of d l ≡ Owner h) ↔ (is_owner (held_state (shape_of b) b.tags h l) ≡ true)
 
 -- memory's own bytes
-abbrev pub memory_of : BackingView → Memory
-memory_of b = record { line_bytes = b.line_bytes; base = b.base; bytes = b.copies }
+abbrev pub copies_memory : BackingView → Memory
+copies_memory b = record { line_bytes = b.line_bytes; base = b.base; bytes = b.copies }

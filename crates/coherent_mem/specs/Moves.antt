@@ -12,7 +12,7 @@ use Rattle.traffic_trace.specs.declared.note.Kind.TheVariants.{Back}
 use Rattle.line_memory.specs.Tags.{Tag, Tags, without_line, each_below, some_below, held_state}
 use Rattle.line_memory.specs.Access.{put_front, shared_line}
 use Rattle.line_memory.specs.Notes.{note_of, evict_notes, leave_notes}
-use Rattle.line_memory.specs.Memory.{Memory, with_line, written}
+use Rattle.line_memory.specs.Memory.{Memory, with_line, with_bytes}
 use Rattle.line_memory.specs.Backing.{BackingView, HasSameNumbers, shape_of, copy_of, view_of}
 use Rattle.coherent_mem.specs.Parts.{Parts, AreParts, held, shown}
 
@@ -25,8 +25,8 @@ abbrev pub list_at : BackingView → ℕ → Line → List Tag
 list_at b h l = b.tags h (l.0 % b.sets)
 
 -- memory's own bytes with a line as users see it
-abbrev pub written_back : BackingView → Line → List ℕ
-written_back b l = with_line b.base b.line_bytes b.copies l.0 (view_of b l)
+abbrev pub flushed_copies : BackingView → Line → List ℕ
+flushed_copies b l = with_line b.base b.line_bytes b.copies l.0 (view_of b l)
 
 -- a part of a call: one list of tags and memory's own bytes change, and users see the same
 pub record Edits (list : List Tag) (own : List ℕ) (h : ℕ) (l : Line)
@@ -39,7 +39,7 @@ pub record Edits (list : List Tag) (own : List ℕ) (h : ℕ) (l : Line)
 -- memory with the bytes of a line that came back
 abbrev pub backed : Memory → Line → Option (List ℕ) → Memory
 backed m l None = m
-backed m l (Some bytes) = written m l (take m.line_bytes bytes)
+backed m l (Some bytes) = with_bytes m l (take m.line_bytes bytes)
 
 -- the notes of bytes that came back
 abbrev pub backed_notes : ℕ → Line → Option (List ℕ) → List Note
@@ -99,7 +99,7 @@ pub record IsShared (l : Line) (state : Mesi) (old new : Parts) : Type 0 where
 abbrev pub MakesRoom : ℕ → Line → Parts → Parts → Option Tag → Type 0
 MakesRoom h l old new None = new ≡ old
 MakesRoom h l old new (Some tag) =
-    IsMoved (take (old.ways - 1) (list_at (shown old) h l)) (written_back (shown old) tag.0) h l
+    IsMoved (take (old.ways - 1) (list_at (shown old) h l)) (flushed_copies (shown old) tag.0) h l
     old new
 
 -- the tags after the holders below n, without h, have lost a line

@@ -2,10 +2,10 @@
 use Rattle.std.specs.Prelude.{ℕ, zero, suc, ◌≡◌, ◌≢◌, ◌+◌, ◌/◌, ◌<◌, ◌≤◌, List, length, slice_index_or, Option, Some, None, is_some}
 use Rattle.conda_base.specs.declared.Line.{Line}
 use Rattle.conda_base.specs.declared.Mesi.TheVariants.{M, S}
-use Rattle.cpu_cache.specs.Contents.{Content, Contents, IsCache, content_of, empty, tags_of}
+use Rattle.cpu_cache.specs.Contents.{Content, Contents, IsCache, content_of, no_contents, tags_of}
 use Rattle.mesi_directory.specs.declared.row.Row.{Row}
 use Rattle.mesi_directory.specs.declared.row.Row.TheVariants.{Owner}
-use Rattle.mesi_directory.specs.Rows.{Rows, AreRows, row_of, has}
+use Rattle.mesi_directory.specs.Rows.{Rows, AreRows, row_of, has_holder}
 use Rattle.line_memory.specs.Memory.{Memory, IsMemory, IsIn, line_of}
 use Rattle.line_memory.specs.Tags.{each_below}
 use Rattle.line_memory.specs.Backing.{BackingView}
@@ -29,7 +29,7 @@ parts_from sets ways memory rows caches = record {
 
 -- the cache of a holder; one that isn't there holds nothing
 abbrev pub cache_at : Parts → ℕ → Contents
-cache_at p h = slice_index_or p.caches h (empty 0 0 0)
+cache_at p h = slice_index_or p.caches h (no_contents 0 0 0)
 
 -- what a holder has of a line
 abbrev pub held : Parts → Line → ℕ → Option Content
@@ -73,7 +73,7 @@ shown p = record {
 -- The rules of one line: its row is its holders, an owner is one that has it in M or E, and where a
 -- holder doesn't have it in M its bytes are memory's.
 pub record IsKept (contents : ℕ → Option Content) (row : Row) (copy : List ℕ) : Type 0 where
-  pub holders : (h : ℕ) → has row h ≡ is_some (contents h)
+  pub holders : (h : ℕ) → has_holder row h ≡ is_some (contents h)
   pub owner : (h : ℕ) (content : Content) →
       contents h ≡ Some content → content.state ≢ S → row ≡ Owner h
   pub owned : (h : ℕ) (content : Content) →

@@ -7,12 +7,12 @@ ghost use Rattle.std.specs.Prelude.{◌≡◌, ◌<◌, ◌≤◌, ◌∷◌, tr
 ghost use Rattle.conda_base.specs.Bytes.{handed_out};
 ghost use Rattle.conda_base.specs.Lines.{IsLineSize};
 ghost use Rattle.conda_base.specs.LineLists.{line_at};
-ghost use Rattle.cpu_cache.specs.Contents.{empty};
+ghost use Rattle.cpu_cache.specs.Contents.{no_contents};
 ghost use Rattle.line_memory.specs.Access.{after_load, after_store};
 ghost use Rattle.line_memory.specs.Backing.{IsInRange, shape_of, view_of};
 ghost use Rattle.line_memory.specs.Memory.{IsMemory};
 ghost use Rattle.line_memory.specs.Notes.{access_notes, all_noted};
-ghost use Rattle.coherent_mem.specs.HandedOut.{IsCacheOf, IsDirectoryOf, memory_of};
+ghost use Rattle.coherent_mem.specs.HandedOut.{IsCacheOf, IsDirectoryOf, copies_memory};
 ghost use Rattle.coherent_mem.specs.Parts.{shown};
 ghost use Rattle.coherent_mem.specs.Steps.{IsAccessTo, IsCoherent, StepsTo, unused, value_seen, view_stored};
 
@@ -192,7 +192,7 @@ impl Coherent {
 
     /// Memory's own bytes.
     pub fn plain(&self) -> &LineMemory
-        ensures memory { result.now ≡ memory_of (shown self.now) }
+        ensures memory { result.now ≡ copies_memory (shown self.now) }
         ensures kept { IsCoherent (shown self.now) }
     {
         &self.memory
@@ -221,7 +221,7 @@ fn empty_caches(
     requires some_ways { 0 < ways }
     requires few_ways { ways ≤ 8 }
     ensures { IfOk result (λ caches.
-        caches.items ≡ replicate holders (empty line_bytes sets ways)) }
+        caches.items ≡ replicate holders (no_contents line_bytes sets ways)) }
 {
     let mut caches = Vec::with_capacity(alloc, holders as usize)?;
     for _ in 0..holders {

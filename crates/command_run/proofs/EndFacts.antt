@@ -12,9 +12,9 @@ use Rattle.machine_run.specs.declared.run.Run.{Run}
 use Rattle.machine_run.specs.declared.ending.Ending.{Ending}
 use Rattle.machine_run.specs.declared.ending.Ending.TheVariants as Ending_is
 use Rattle.command_run.specs.Names.{Names, HaveDistinctNames, report_file, report_uses}
-use Rattle.command_run.specs.Driving.{IsStarted, HoldTexts, HasRunTexts, LeavesFiles, bytes_of}
+use Rattle.command_run.specs.Driving.{IsStarted, HoldTexts, HasRunTexts, LeavesFiles, bytes_of_file}
 
-pub schedule_bytes : (names : Names) (a b : HostState) → IsStarted names a b → IsTrue a.tells → (b.role role.Schedule).left ≡ bytes_of a names.schedule
+pub schedule_bytes : (names : Names) (a b : HostState) → IsStarted names a b → IsTrue a.tells → (b.role role.Schedule).left ≡ bytes_of_file a names.schedule
 schedule_bytes names a b started told = sym (ap (λ f. unwrap_or f []) (started.schedule told))
 
 not_reported : (names : Names) (n : List ℕ) → n ≢ names.report → (r : Role) → report_file names.report r ≢ Some n

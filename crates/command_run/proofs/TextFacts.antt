@@ -11,7 +11,7 @@ use Rattle.streams.specs.declared.fault.Fault.TheVariants as fault
 use Rattle.streams.specs.declared.sinks.Sinks.{Sinks}
 use Rattle.streams.specs.Seen.{ShowsText, fault_in}
 use Rattle.streams.specs.Sink.{SinkView, IsMade}
-use Rattle.streams.specs.Streaming.{is_of, has_sink, text_at, seen_over, HaveTwoFiles as SinksApart, AreMade, AreOpen, AreWhole, IsStreaming, HasFaultCause}
+use Rattle.streams.specs.Streaming.{is_sink_of, has_sink, text_at, seen_over, HaveTwoFiles as SinksApart, AreMade, AreOpen, AreWhole, IsStreaming, HasFaultCause}
 use Rattle.streams.specs.Using.{KeepsTo}
 use Rattle.streams.proofs.FilesFacts.{sink_file}
 use Rattle.streams.proofs.StreamFacts.{role_tells, self_test}
@@ -39,7 +39,7 @@ output_file h names made there = go names.output refl made.output there
     go None e m t = cc
     go (Some n) e m t = record { name = n; used = e; empty = m }
 
-is_role : (w : Option SinkView) (r q : Role) → IfSome w (IsUnusedSink r) → IsTrue (is_of w q) → (q ≡ r) × (is_some w ≡ true)
+is_role : (w : Option SinkView) (r q : Role) → IfSome w (IsUnusedSink r) → IsTrue (is_sink_of w q) → (q ≡ r) × (is_some w ≡ true)
 is_role None r q unused is = cc
 is_role (Some y) r q unused is =
     elim (role_tells y.role q) [
@@ -57,7 +57,7 @@ first_unused names a ready = subst (λ o. IfSome o (IsUnusedSink role.Order)) (s
 -- each sink has a file that was made, empty, under its name
 pub file_of : (h : HostState) (names : Names) (a : Sinks) → AreNewSinks (is_some names.output) a → AreMadeTexts names h → (r : Role) → IsTrue (has_sink a r) → NamedFile h names r
 file_of h names a ready made r is =
-    elim (either (is_of a.first r) (is_of a.second r) is) [
+    elim (either (is_sink_of a.first r) (is_sink_of a.second r) is) [
       | inl e ↦
           let same : r ≡ role.Order = (is_role a.first role.Order r (first_unused names a ready) e).0 in
           subst (NamedFile h names) (sym same) (record { name = names.order; used = refl; empty = made.order })
@@ -81,8 +81,8 @@ differ names f g apart order output = λ same. go names.output apart.order_outpu
 
 pub sinks_made : (h : HostState) (names : Names) (a : Sinks) → AreNewSinks (is_some names.output) a → AreMadeTexts names h → HaveDistinctNames names → AreMade h a
 sinks_made h names a ready made apart = record {
-  first = one a.first (λ r is. file_of h names a ready made r (ap (λ b. b || is_of a.second r) is ∙ refl));
-  second = one a.second (λ r is. file_of h names a ready made r (ap (λ b. is_of a.first r || b) is ∙ or_true (is_of a.first r)));
+  first = one a.first (λ r is. file_of h names a ready made r (ap (λ b. b || is_sink_of a.second r) is ∙ refl));
+  second = one a.second (λ r is. file_of h names a ready made r (ap (λ b. is_sink_of a.first r || b) is ∙ or_true (is_sink_of a.first r)));
   apart = both a.first a.second (first_unused names a ready) ready.output
       (λ is. (file_of h names a ready made role.Order is)) (λ is. file_of h names a ready made role.Output is) refl refl;
 }
@@ -91,7 +91,7 @@ sinks_made h names a ready made apart = record {
     or_true true = refl
     or_true false = refl
 
-    one : (o : Option SinkView) → ((r : Role) → IsTrue (is_of o r) → NamedFile h names r) → IfSome o (λ x. IsMade h x.role)
+    one : (o : Option SinkView) → ((r : Role) → IsTrue (is_sink_of o r) → NamedFile h names r) → IfSome o (λ x. IsMade h x.role)
     one None f = tt
     one (Some x) f = made_of h names x.role (f x.role (self_test x.role))
 
@@ -100,9 +100,9 @@ sinks_made h names a ready made apart = record {
     both None w p q f g e d = tt
     both (Some x) None p q f g e d = tt
     both (Some x) (Some y) p q f g e d =
-        let here : IsTrue (has_sink a role.Order) = ap (λ o. is_of o role.Order || is_of a.second role.Order) e ∙ ap (λ r. (index_of r == index_of role.Order) || is_of a.second role.Order) p.role_is in
-        let there : IsTrue (has_sink a role.Output) = ap (λ o. is_of a.first role.Output || is_of o role.Output) d ∙ ap (λ r. is_of a.first role.Output || (index_of r == index_of role.Output)) q.role_is
-        ∙ or_true (is_of a.first role.Output) in
+        let here : IsTrue (has_sink a role.Order) = ap (λ o. is_sink_of o role.Order || is_sink_of a.second role.Order) e ∙ ap (λ r. (index_of r == index_of role.Order) || is_sink_of a.second role.Order) p.role_is in
+        let there : IsTrue (has_sink a role.Output) = ap (λ o. is_sink_of a.first role.Output || is_sink_of o role.Output) d ∙ ap (λ r. is_sink_of a.first role.Output || (index_of r == index_of role.Output)) q.role_is
+        ∙ or_true (is_sink_of a.first role.Output) in
         record {
           roles = λ same. let no : role.Output ≡ role.Order = sym q.role_is ∙ same ∙ p.role_is in cc;
           names = λ told same. differ names (f here).name (g there).name apart (f here).used (g there).used
@@ -167,8 +167,8 @@ sinks_cause h k names a (Err (fault.Write r)) ready made cause =
 
 has_order : (names : Names) (a : Sinks) → AreNewSinks (is_some names.output) a → IsTrue (has_sink a role.Order)
 has_order names a ready =
-    ap (λ o. is_of o role.Order || is_of a.second role.Order) ready.order.1
-    ∙ ap (λ r. (index_of r == index_of role.Order) || is_of a.second role.Order) ready.order.2.role_is
+    ap (λ o. is_sink_of o role.Order || is_sink_of a.second role.Order) ready.order.1
+    ∙ ap (λ r. (index_of r == index_of role.Order) || is_sink_of a.second role.Order) ready.order.2.role_is
 
 has_output : (names : Names) (a : Sinks) (n : List ℕ) → AreNewSinks (is_some names.output) a → names.output ≡ Some n → IsTrue (has_sink a role.Output)
 has_output names a n ready is = go a.second refl ready.output (ready.both ∙ ap is_some is)
@@ -180,7 +180,7 @@ has_output names a n ready is = go a.second refl ready.output (ready.both ∙ ap
     go : (w : Option SinkView) → a.second ≡ w → IfSome w (IsUnusedSink role.Output) → is_some w ≡ true → IsTrue (has_sink a role.Output)
     go None e u there = cc
     go (Some y) e u there =
-        ap (λ o. is_of a.first role.Output || is_of o role.Output) e ∙ ap (λ r. is_of a.first role.Output || (index_of r == index_of role.Output)) u.role_is ∙ or_true (is_of a.first role.Output)
+        ap (λ o. is_sink_of a.first role.Output || is_sink_of o role.Output) e ∙ ap (λ r. is_sink_of a.first role.Output || (index_of r == index_of role.Output)) u.role_is ∙ or_true (is_sink_of a.first role.Output)
 
 -- a sink's file has the name that is given to it
 named_now : (h k : HostState) (names : Names) (a : Sinks) (ready : AreNewSinks (is_some names.output) a) (made : AreMadeTexts names h) → IsStreaming role.Schedule (has_sink a) h k → IsTrue h.tells → (r : Role) (is : IsTrue (has_sink a r))

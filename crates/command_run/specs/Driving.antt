@@ -35,8 +35,8 @@ pub record IsStarted (names : Names) (old new : HostState) : Type 0 where
   pub schedule : IsTrue old.tells → old.file names.schedule ≡ Some (new.role Schedule).left
   pub made : AreMadeTexts names new
 
-abbrev pub bytes_of : HostState → List ℕ → List ℕ
-bytes_of s name = unwrap_or (s.file name) []
+abbrev pub bytes_of_file : HostState → List ℕ → List ℕ
+bytes_of_file s name = unwrap_or (s.file name) []
 
 -- order and output hold these texts
 pub record HoldTexts (names : Names) (s : HostState) (journal bytes : List ℕ) : Type 0 where

@@ -16,8 +16,8 @@ pub record Names : Type 0 where
   pub report : List ℕ
   pub output : Option (List ℕ)
 
-abbrev pub named : RunNames → Names
-named w = record {
+abbrev pub run_names : RunNames → Names
+run_names w = record {
   schedule = w.schedule.now;
   order = w.order.now;
   report = w.report.now;

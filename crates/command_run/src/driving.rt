@@ -6,8 +6,8 @@ ghost use Rattle.chip_laws.specs.Design.{Design};
 ghost use Rattle.streams.specs.Using.{KeepsTo};
 ghost use Rattle.machine_run.specs.Tasks.{AreReportSinks, IsNewTask};
 ghost use Rattle.run_report.specs.Texts.{report_text};
-ghost use Rattle.command_run.specs.Names.{CreatesOnceOpened, HaveDistinctNames, FaultRose, named, text_uses, report_uses, run_uses};
-ghost use Rattle.command_run.specs.Driving.{AreMadeTexts, IsStarted, RunsTexts, LeavesFiles, CreatedHoldsFront, CreatedHoldFronts, TextFronts, bytes_of};
+ghost use Rattle.command_run.specs.Names.{CreatesOnceOpened, HaveDistinctNames, FaultRose, run_names, text_uses, report_uses, run_uses};
+ghost use Rattle.command_run.specs.Driving.{AreMadeTexts, IsStarted, RunsTexts, LeavesFiles, CreatedHoldsFront, CreatedHoldFronts, TextFronts, bytes_of_file};
 
 use crate::calls::{create, open};
 use crate::names::RunNames;
@@ -19,12 +19,12 @@ use streams::{Fault, Sinks};
 
 // Creates the output's file, where it is named.
 fn create_output<H: Host>(names: &RunNames, host: &mut H) -> Result<(), Fault>
-    ensures ok { OnOk result (IfSome (named names.now).output (Creates
+    ensures ok { OnOk result (IfSome (run_names names.now).output (Creates
         (H.state host.new) role.Output)) }
-    ensures cause { IfErr result (FaultRose (named names.now) (H.state host.old)
+    ensures cause { IfErr result (FaultRose (run_names names.now) (H.state host.old)
         (H.state host.new)) }
     ensures none { OnErr result (is_created (H.state host.new) role.Output ≡ false) }
-    ensures rest { MatchOption (named names.now).output (H.state host.new ≡ H.state host.old)
+    ensures rest { MatchOption (run_names names.now).output (H.state host.new ≡ H.state host.old)
         (IsCreating (H.state host.old) (H.state host.new) role.Output) }
 {
     match names.output {
@@ -35,17 +35,17 @@ fn create_output<H: Host>(names: &RunNames, host: &mut H) -> Result<(), Fault>
 
 // Creates the files of order and output.
 fn create_texts<H: Host>(names: &RunNames, host: &mut H) -> Result<(), Fault>
-    requires { HaveDistinctNames (named names.now) }
-    ensures made { OnOk result (AreMadeTexts (named names.now) (H.state host.new)) }
+    requires { HaveDistinctNames (run_names names.now) }
+    ensures made { OnOk result (AreMadeTexts (run_names names.now) (H.state host.new)) }
     ensures fronts { OnErr result ((journal bytes : List ℕ) → IsTrue (H.state host.old).tells
-        → TextFronts (named names.now) (H.state host.old) (H.state host.new) journal bytes) }
+        → TextFronts (run_names names.now) (H.state host.old) (H.state host.new) journal bytes) }
     ensures schedule { ((H.state host.new).role role.Schedule).opened ≡
         ((H.state host.old).role role.Schedule).opened }
     ensures left { ((H.state host.new).role role.Schedule).left ≡
         ((H.state host.old).role role.Schedule).left }
-    ensures cause { IfErr result (FaultRose (named names.now) (H.state host.old)
+    ensures cause { IfErr result (FaultRose (run_names names.now) (H.state host.old)
         (H.state host.new)) }
-    ensures keeps { KeepsTo (text_uses (named names.now)) (H.state host.old) (H.state host.new) }
+    ensures keeps { KeepsTo (text_uses (run_names names.now)) (H.state host.old) (H.state host.new) }
 {
     create(host, Role::Order, names.order)?;
     create_output(names, host)
@@ -53,15 +53,15 @@ fn create_texts<H: Host>(names: &RunNames, host: &mut H) -> Result<(), Fault>
 
 // Opens the schedule, and creates the files of order and output.
 fn start<H: Host>(names: &RunNames, host: &mut H) -> Result<(), Fault>
-    requires { HaveDistinctNames (named names.now) }
-    ensures started { OnOk result (IsStarted (named names.now) (H.state host.old)
+    requires { HaveDistinctNames (run_names names.now) }
+    ensures started { OnOk result (IsStarted (run_names names.now) (H.state host.old)
         (H.state host.new)) }
     ensures fronts { OnErr result ((journal bytes : List ℕ) → IsTrue (H.state host.old).tells
-        → TextFronts (named names.now) (H.state host.old) (H.state host.new) journal bytes) }
-    ensures cause { IfErr result (FaultRose (named names.now) (H.state host.old)
+        → TextFronts (run_names names.now) (H.state host.old) (H.state host.new) journal bytes) }
+    ensures cause { IfErr result (FaultRose (run_names names.now) (H.state host.old)
         (H.state host.new)) }
     ensures unopened { CreatesOnceOpened (H.state host.old) (H.state host.new) }
-    ensures keeps { KeepsTo (text_uses (named names.now)) (H.state host.old) (H.state host.new) }
+    ensures keeps { KeepsTo (text_uses (run_names names.now)) (H.state host.old) (H.state host.new) }
 {
     open(host, Role::Schedule, names.schedule)?;
     create_texts(names, host)
@@ -73,18 +73,18 @@ fn run_texts<M: Machine, H: Host>(
     task: &mut Task<M>,
     host: &mut H,
 ) -> Result<Ending, Fault>
-    requires apart { HaveDistinctNames (named names.now) }
-    requires fresh { IsNewTask (is_some (named names.now).output) task.old }
+    requires apart { HaveDistinctNames (run_names names.now) }
+    requires fresh { IsNewTask (is_some (run_names names.now).output) task.old }
     requires opened { IsTrue ((H.state host.old).role role.Schedule).opened }
-    requires made { AreMadeTexts (named names.now) (H.state host.old) }
+    requires made { AreMadeTexts (run_names names.now) (H.state host.old) }
     ensures runs { (d : Design) → M.stands d task.old.run.machine []
-        → IsTrue (H.state host.old).tells → RunsTexts ⟦<M as Machine>⟧ (named names.now) d
+        → IsTrue (H.state host.old).tells → RunsTexts ⟦<M as Machine>⟧ (run_names names.now) d
         ((H.state host.old).role role.Schedule).left (H.state host.new) task.new.run result }
-    ensures cause { IfErr result (FaultRose (named names.now) (H.state host.old)
+    ensures cause { IfErr result (FaultRose (run_names names.now) (H.state host.old)
         (H.state host.new)) }
     ensures opened { IsTrue ((H.state host.new).role role.Schedule).opened }
     ensures report { task.new.report ≡ task.old.report }
-    ensures keeps { KeepsTo (text_uses (named names.now)) (H.state host.old) (H.state host.new) }
+    ensures keeps { KeepsTo (text_uses (run_names names.now)) (H.state host.old) (H.state host.new) }
 {
     run_files(task, host)
 }
@@ -98,16 +98,16 @@ fn report<M: Machine + Shown, H: Host>(
 ) -> Result<(), Fault>
     requires { AreReportSinks sinks.old }
     ensures ok { OnOk result (IsTrue (H.state host.old).tells
-        → (H.state host.new).file (named names.now).report
+        → (H.state host.new).file (run_names names.now).report
         ≡ Some (report_text (M.shown run.now.machine) run.now.events run.now.output_bytes)) }
-    ensures cause { IfErr result (FaultRose (named names.now) (H.state host.old)
+    ensures cause { IfErr result (FaultRose (run_names names.now) (H.state host.old)
         (H.state host.new)) }
     ensures fault { IfErr result (λ f. f ≡ Fault.Write role.Report) }
     ensures front { OnErr result (IsTrue (H.state host.old).tells
         → CreatedHoldsFront (H.state host.old) (H.state host.new) role.Report
         (report_text (M.shown run.now.machine) run.now.events run.now.output_bytes)
-        (named names.now).report) }
-    ensures keeps { KeepsTo (report_uses (named names.now).report) (H.state host.old)
+        (run_names names.now).report) }
+    ensures keeps { KeepsTo (report_uses (run_names names.now).report) (H.state host.old)
         (H.state host.new) }
 {
     write_report(names.report, run, sinks, host)
@@ -119,30 +119,30 @@ pub fn carry_out<M: Machine + Shown, H: Host>(
     task: &mut Task<M>,
     host: &mut H,
 ) -> Result<Ending, Fault>
-    requires apart { HaveDistinctNames (named names.now) }
-    requires fresh { IsNewTask (is_some (named names.now).output) task.old }
+    requires apart { HaveDistinctNames (run_names names.now) }
+    requires fresh { IsNewTask (is_some (run_names names.now).output) task.old }
 
     // The files hold the texts of the events that run, at the schedule's end with the report.
     ensures ends { (d : Design) → M.stands d task.old.run.machine []
         → IsTrue (H.state host.old).tells
-        → LeavesFiles ⟦<M as Machine>⟧ M.shown (named names.now) d
-        (bytes_of (H.state host.old) (named names.now).schedule)
+        → LeavesFiles ⟦<M as Machine>⟧ M.shown (run_names names.now) d
+        (bytes_of_file (H.state host.old) (run_names names.now).schedule)
         (H.state host.new) task.new.run result }
 
     // After a fault each file that was created holds a front of its text.
     ensures fronts { OnErr result ((d : Design) → M.stands d task.old.run.machine []
         → IsTrue (H.state host.old).tells
-        → CreatedHoldFronts ⟦<M as Machine>⟧ M.shown (named names.now) d
-        (bytes_of (H.state host.old) (named names.now).schedule)
+        → CreatedHoldFronts ⟦<M as Machine>⟧ M.shown (run_names names.now) d
+        (bytes_of_file (H.state host.old) (run_names names.now).schedule)
         (H.state host.old) (H.state host.new) task.new.run) }
 
     // A fault's count rose.
-    ensures cause { IfErr result (FaultRose (named names.now) (H.state host.old)
+    ensures cause { IfErr result (FaultRose (run_names names.now) (H.state host.old)
         (H.state host.new)) }
 
     // No other role is opened or created, and no other file changes; the report's only where the
     // schedule was run whole.
-    ensures keeps { KeepsTo (run_uses (named names.now) result) (H.state host.old)
+    ensures keeps { KeepsTo (run_uses (run_names names.now) result) (H.state host.old)
         (H.state host.new) }
 
     // Nothing is created where the schedule isn't opened.

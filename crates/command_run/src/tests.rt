@@ -1,6 +1,6 @@
 // Worked examples of a chip's runs, over a host in memory.
 ghost use Rattle.std.specs.Prelude.{◌≡◌, ◌≤◌, None};
-ghost use Rattle.command_run.specs.Names.{HaveDistinctNames, named};
+ghost use Rattle.command_run.specs.Names.{HaveDistinctNames, run_names};
 
 use crate::{RunNames, carry_out};
 use chip_config::Config;
@@ -52,8 +52,8 @@ fn host_over(
 }
 
 fn names() -> RunNames<'static>
-    ensures apart { HaveDistinctNames (named result) }
-    ensures none { (named result).output ≡ None }
+    ensures apart { HaveDistinctNames (run_names result) }
+    ensures none { (run_names result).output ≡ None }
 {
     RunNames {
         schedule: "s",

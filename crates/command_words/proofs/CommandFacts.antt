@@ -7,8 +7,8 @@ use Rattle.std.proofs.lemmas.Option.{cond_some}
 use Rattle.schedule_log.specs.Verdict.{most_events}
 use Rattle.command_words.specs.declared.table.Kind.TheVariants as kind
 use Rattle.command_words.specs.declared.command.Command.{Command}
-use Rattle.command_words.specs.Options.{Given, Known, are_different, are_options, file_values, fits, has_place, is_option, one_number, options_of, pair, suits, values_of}
-use Rattle.command_words.specs.Words.{AreApart, Asked, Run, SelfRun, Asm, Dis, HasAllowedValues, asked, asked_by, command_named, files_in, free_file, needed_file, needed_number, amount_in, name_in, program_files_in, program_options, run_options, self_options, self_run_in, where_allowed}
+use Rattle.command_words.specs.Options.{Given, Known, are_different, are_options, file_values, fits, has_place, is_option, one_number, options_of, given_pair, suits, values_of}
+use Rattle.command_words.specs.Words.{AreApart, Asked, Run, SelfRun, Asm, Dis, HasAllowedValues, asked, asked_with, command_named, files_in, free_file, needed_file, needed_number, amount_in, name_in, program_files_in, program_options, run_options, self_options, self_run_in, where_allowed}
 use Rattle.command_words.proofs.ValueFacts.{in_range, apart_free, apart_needed, both, no_number, of_kind, one_number_is}
 
 -- ---- what a table allows
@@ -52,14 +52,14 @@ is_allowed table options h =
 
 -- ---- `self`
 
-seed_kind : (value : List ℕ) → is_option self_options (pair (codes "--seed") value) ≡ true → fits (kind.Number 0 (2 ^ 64 - 1)) value ≡ true
+seed_kind : (value : List ℕ) → is_option self_options (given_pair (codes "--seed") value) ≡ true → fits (kind.Number 0 (2 ^ 64 - 1)) value ≡ true
 seed_kind value h = go (fits (kind.Number 0 (2 ^ 64 - 1)) value) refl
   where
     go : (t : Bool) → fits (kind.Number 0 (2 ^ 64 - 1)) value ≡ t → t ≡ true
     go true e = refl
     go false e = let no : false ≡ true = rw e at h in no
 
-events_kind : (value : List ℕ) → is_option self_options (pair (codes "--events") value) ≡ true → fits (kind.Number 1 most_events) value ≡ true
+events_kind : (value : List ℕ) → is_option self_options (given_pair (codes "--events") value) ≡ true → fits (kind.Number 1 most_events) value ≡ true
 events_kind value h = go (fits (kind.Number 1 most_events) value) refl
   where
     go : (t : Bool) → fits (kind.Number 1 most_events) value ≡ t → t ≡ true
@@ -156,7 +156,7 @@ sound_where table options a b sound h =
     let taken = cond_some (are_options table options) a b h in
     subst HasAllowedValues taken.1 (sound taken.0)
 
-sound_by : (name : List ℕ) (options : List Given) (a : Asked) → asked_by name options ≡ Some a → HasAllowedValues a
+sound_by : (name : List ℕ) (options : List Given) (a : Asked) → asked_with name options ≡ Some a → HasAllowedValues a
 sound_by name options a h = run (bytes_eq name (codes "run")) refl
   where
     dis : (t : Bool) → bytes_eq name (codes "dis") ≡ t
@@ -180,7 +180,7 @@ pub sound : (words : List (List ℕ)) (a : Asked) → asked words ≡ Some a →
 sound [] a h = cc
 sound (name ∷ words) a h = sound_by name (options_of words) a h
 
-pub sound_result : (name : List ℕ) (words : List (List ℕ)) (r : Option Command) → (let a = asked_by name (options_of words) in MatchOption r (a ≡ None) (λ c. a ≡ Some (command_named c)))
+pub sound_result : (name : List ℕ) (words : List (List ℕ)) (r : Option Command) → (let a = asked_with name (options_of words) in MatchOption r (a ≡ None) (λ c. a ≡ Some (command_named c)))
     → IfSome r (λ c. HasAllowedValues (command_named c))
 sound_result name words None h = tt
 sound_result name words (Some c) h = sound_by name (options_of words) (command_named c) h

@@ -3,7 +3,7 @@ use Rattle.std.proofs.Common.{◌≡◌, ℕ, ◌<◌, List, [], ◌∷◌, leng
 use Rattle.std.specs.Prelude.{Bool, Option, Some, None, MatchOption}
 use Rattle.std.specs.List.{position_or_len, before_first, after_first}
 use denote.Ref.{Bor}
-use Rattle.command_words.specs.Options.{cut, is_equals, is_whole, pair}
+use Rattle.command_words.specs.Options.{cut, is_equals, is_whole, given_pair}
 
 -- a word with no equals sign is a name alone
 pub is_whole-absent : (word : List ℕ) → position_or_len is_equals word ≡ length word → is_whole word ≡ false
@@ -30,6 +30,6 @@ pub parts_of_split : (word : List ℕ) (r : Option (Bor (List ℕ) × Bor (List 
     → MatchOption r (position_or_len is_equals word ≡ length word)
     (λ x. (position_or_len is_equals word < length word) × (x.0.now ≡ before_first is_equals word) × (x.1.now ≡ after_first is_equals word))
     → MatchOption r (is_whole word ≡ false)
-    (λ x. (is_whole word ≡ true) × (cut word ≡ pair x.0.now x.1.now))
+    (λ x. (is_whole word ≡ true) × (cut word ≡ given_pair x.0.now x.1.now))
 parts_of_split word None h = is_whole-absent word h
 parts_of_split word (Some x) h = (is_whole-present word h.0, (let front = h.1 in let back = h.2 in cc))

@@ -9,7 +9,7 @@ use Rattle.std.proofs.lemmas.Option.{cond_some}
 use Rattle.std.proofs.lemmas.Slice.Eq.{bytes_eq-Decides}
 use Rattle.conda_base.specs.Digits.{number_after}
 use Rattle.command_words.specs.declared.table.Kind.{Kind}
-use Rattle.command_words.specs.Options.{Given, Known, are_different, differs, file_values, fits, is_option, names_file, number_in, one_number, pair, suits, value_of, values_of}
+use Rattle.command_words.specs.Options.{Given, Known, are_different, differs, file_values, fits, is_option, names_file, number_within, one_number, given_pair, suits, first_value, values_of}
 use Rattle.command_words.specs.Words.{name_in}
 
 -- both parts of a test that passes
@@ -122,10 +122,10 @@ apart_needed table a b fa fb ab options ha hb h same =
 -- and of one that may be left out
 pub apart_free : (table : List Known) (a b : List ℕ) → list_any (names_file a) table ≡ true → list_any (names_file b) table ≡ true → bytes_eq a b ≡ false → (options : List Given)
     → suits true (values_of a options) ≡ true → suits false (values_of b options) ≡ true → are_different (file_values table options) ≡ true
-    → IfSome (value_of b options) (λ other. name_in a options ≢ other)
+    → IfSome (first_value b options) (λ other. name_in a options ≢ other)
 apart_free table a b fa fb ab options ha hb h = go (values_of b options) refl
   where
-    go : (values : List (List ℕ)) → values_of b options ≡ values → IfSome (value_of b options) (λ other. name_in a options ≢ other)
+    go : (values : List (List ℕ)) → values_of b options ≡ values → IfSome (first_value b options) (λ other. name_in a options ≢ other)
     go [] e = rw e tt
     go (v ∷ []) e = rw e (λ same.
         let one = one_of (values_of a options) ha in
@@ -135,7 +135,7 @@ apart_free table a b fa fb ab options ha hb h = go (values_of b options) refl
 -- ---- numbers
 
 -- the values of an option are of its kind
-pub of_kind : (table : List Known) (name : List ℕ) (k : Kind) → ((value : List ℕ) → is_option table (pair name value) ≡ true → fits k value ≡ true) → (options : List Given)
+pub of_kind : (table : List Known) (name : List ℕ) (k : Kind) → ((value : List ℕ) → is_option table (given_pair name value) ≡ true → fits k value ≡ true) → (options : List Given)
     → list_all (is_option table) options ≡ true → list_all (fits k) (values_of name options) ≡ true
 of_kind table name k fit [] h = refl
 of_kind table name k fit (o ∷ os) h =
@@ -144,7 +144,7 @@ of_kind table name k fit (o ∷ os) h =
   where
     go : is_option table o ≡ true → list_all (fits k) (values_of name os) ≡ true → (t : Bool) → bytes_eq o.name name ≡ t → list_all (fits k) (values_of name (o ∷ os)) ≡ true
     go here later true e =
-        let is = fit o.value (subst (λ n. is_option table (pair n o.value) ≡ true) (names_same o.name name e) here) in
+        let is = fit o.value (subst (λ n. is_option table (given_pair n o.value) ≡ true) (names_same o.name name e) here) in
         rw e (rw is later)
     go here later false e = rw e later
 
@@ -154,7 +154,7 @@ pub record IsNumber (from to n : ℕ) (value : List ℕ) : Type 0 where
   pub low : from ≤ n
   pub high : n ≤ to
 
-pub number_of : (from to n : ℕ) (value : List ℕ) → number_in from to value ≡ Some n → IsNumber from to n value
+pub number_of : (from to n : ℕ) (value : List ℕ) → number_within from to value ≡ Some n → IsNumber from to n value
 number_of from to n value h =
     let all = number_after 0 value in
     let taken = cond_some (is_numeral value && nat_le from all && nat_le all to) all n h in
@@ -175,18 +175,18 @@ one_number_is from to n (v ∷ []) h = record { value = v; only = refl; is = num
 one_number_is from to n (v ∷ w ∷ vs) h = cc
 
 -- the number of an option that must stand, where its values are in the range
-pub in_range : (from to : ℕ) (values : List (List ℕ)) → suits true values ≡ true → list_all (λ v. is_some (number_in from to v)) values ≡ true
+pub in_range : (from to : ℕ) (values : List (List ℕ)) → suits true values ≡ true → list_all (λ v. is_some (number_within from to v)) values ≡ true
     → (from ≤ number_after 0 (unwrap_or (slice_get values 0) [])) × (number_after 0 (unwrap_or (slice_get values 0) []) ≤ to)
 in_range from to [] h fit = cc
-in_range from to (v ∷ []) h fit = go (number_in from to v) refl
+in_range from to (v ∷ []) h fit = go (number_within from to v) refl
   where
-    go : (o : Option ℕ) → number_in from to v ≡ o → (from ≤ number_after 0 v) × (number_after 0 v ≤ to)
+    go : (o : Option ℕ) → number_within from to v ≡ o → (from ≤ number_after 0 v) × (number_after 0 v ≤ to)
     go None e = let no : false ≡ true = rw e at fit in cc
     go (Some n) e = let is = number_of from to n v e in (subst (λ m. from ≤ m) (sym is.number) is.low, subst (λ m. m ≤ to) (sym is.number) is.high)
 in_range from to (v ∷ w ∷ vs) h fit = cc
 
 -- where there is none, the option doesn't stand once
-pub no_number : (from to : ℕ) (values : List (List ℕ)) → list_all (λ v. is_some (number_in from to v)) values ≡ true → one_number from to values ≡ None → suits true values ≡ false
+pub no_number : (from to : ℕ) (values : List (List ℕ)) → list_all (λ v. is_some (number_within from to v)) values ≡ true → one_number from to values ≡ None → suits true values ≡ false
 no_number from to [] all h = refl
 no_number from to (v ∷ []) all h = let no : false ≡ true = rw h at all in cc
 no_number from to (v ∷ w ∷ vs) all h = refl

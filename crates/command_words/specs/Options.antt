@@ -29,17 +29,17 @@ abbrev pub cut : List ℕ → Given
 cut word = record { name = before_first is_equals word; value = after_first is_equals word }
 
 -- a name and the word behind it
-abbrev pub pair : List ℕ → List ℕ → Given
-pair name value = record { name = name; value = value }
+abbrev pub given_pair : List ℕ → List ℕ → Given
+given_pair name value = record { name = name; value = value }
 
 -- the options that words give, `name=value` or `name` and `value`: a name at the end has the empty
 -- value
 abbrev pub options_of : List (List ℕ) → List Given
 options_of [] = []
-options_of (word ∷ []) = (if is_whole word then cut word else pair word []) ∷ []
+options_of (word ∷ []) = (if is_whole word then cut word else given_pair word []) ∷ []
 options_of (word ∷ next ∷ words) =
     if is_whole word then cut word ∷ options_of (next ∷ words)
-    else pair word next ∷ options_of words
+    else given_pair word next ∷ options_of words
 
 -- the values that options give a name
 abbrev pub values_of : List ℕ → List Given → List (List ℕ)
@@ -49,8 +49,8 @@ values_of name (option ∷ options) =
     else values_of name options
 
 -- the first of them
-abbrev pub value_of : List ℕ → List Given → Option (List ℕ)
-value_of name options = slice_get (values_of name options) 0
+abbrev pub first_value : List ℕ → List Given → Option (List ℕ)
+first_value name options = slice_get (values_of name options) 0
 
 -- an option at the front of some words
 abbrev pub given : FrontOption → Given
@@ -74,20 +74,20 @@ is_value [] = false
 is_value (b ∷ bs) = not (b == 45)
 
 -- the number that a value is, where it lies in this range
-abbrev pub number_in : ℕ → ℕ → List ℕ → Option ℕ
-number_in from to value =
+abbrev pub number_within : ℕ → ℕ → List ℕ → Option ℕ
+number_within from to value =
     if is_numeral value && nat_le from (number_after 0 value) && nat_le (number_after 0 value) to
     then Some (number_after 0 value) else None
 
 -- the number of an option that stands once
 abbrev pub one_number : ℕ → ℕ → List (List ℕ) → Option ℕ
-one_number from to (value ∷ []) = number_in from to value
+one_number from to (value ∷ []) = number_within from to value
 one_number from to other = None
 
 -- a value of this kind: a file's name, or a number in its range
 abbrev pub fits : Kind → List ℕ → Bool
 fits kind.File value = is_value value
-fits (kind.Number from to) value = is_some (number_in from to value)
+fits (kind.Number from to) value = is_some (number_within from to value)
 
 abbrev pub takes : Given → Known → Bool
 takes option known = bytes_eq option.name known.name && fits known.kind option.value

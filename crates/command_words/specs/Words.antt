@@ -8,7 +8,7 @@ use Rattle.command_words.specs.declared.command.ProgramFiles.{ProgramFiles as Pr
 use Rattle.command_words.specs.declared.command.Command.{Command}
 use Rattle.command_words.specs.declared.command.Command.TheVariants as command
 use Rattle.command_words.specs.declared.table.Kind.TheVariants as kind
-use Rattle.command_words.specs.Options.{Given, Known, are_options, options_of, value_of}
+use Rattle.command_words.specs.Options.{Given, Known, are_options, options_of, first_value}
 
 -- ---- the commands and their options
 
@@ -72,7 +72,7 @@ pub data Asked : Type 0 where
 
 -- the name that an option gives
 abbrev pub name_in : List ℕ → List Given → List ℕ
-name_in name options = unwrap_or (value_of name options) []
+name_in name options = unwrap_or (first_value name options) []
 
 -- the number that an option gives
 abbrev pub amount_in : List ℕ → List Given → ℕ
@@ -85,7 +85,7 @@ files_in options = record {
   schedule = name_in (codes "--schedule") options;
   order = name_in (codes "--order") options;
   report = name_in (codes "--report") options;
-  output = value_of (codes "--output") options;
+  output = first_value (codes "--output") options;
 }
 
 abbrev pub program_files_in : List Given → ProgramFiles
@@ -104,8 +104,8 @@ abbrev pub where_allowed : List Known → List Given → Asked → Option Asked
 where_allowed table options asked = if are_options table options then Some asked else None
 
 -- what a command with these options asks for
-abbrev pub asked_by : List ℕ → List Given → Option Asked
-asked_by name options =
+abbrev pub asked_with : List ℕ → List Given → Option Asked
+asked_with name options =
     if bytes_eq name (codes "run") then where_allowed run_options options (Run (files_in options))
     else (if bytes_eq name (codes "self")
     then where_allowed self_options options (self_run_in options)
@@ -118,7 +118,7 @@ asked_by name options =
 -- what the words ask for, if they are the words of a command
 abbrev pub asked : List (List ℕ) → Option Asked
 asked [] = None
-asked (name ∷ words) = asked_by name (options_of words)
+asked (name ∷ words) = asked_with name (options_of words)
 
 -- the files that the words name, where they are the words of a run
 abbrev pub run_of : Option Asked → Option Files

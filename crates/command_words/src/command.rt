@@ -2,7 +2,7 @@
 ghost use Rattle.std.specs.Prelude.{◌≡◌, ◌≤◌, ◌&&◌, Some, None, MatchOption, IfSome, map, option_map, string_bytes, true, false};
 ghost use Rattle.std.specs.List.{list_all};
 ghost use Rattle.command_words.specs.Options.{are_different, are_options, file_values, has_place, is_option, known, one_number, options_of, values_of};
-ghost use Rattle.command_words.specs.Words.{AreApart, HasAllowedValues, run_files, run_of, Asm, Dis, Run, asked, asked_by, command_named, files_in, named, program_files_in, program_named, program_options, run_options, self_options, self_run_in, where_allowed};
+ghost use Rattle.command_words.specs.Words.{AreApart, HasAllowedValues, run_files, run_of, Asm, Dis, Run, asked, asked_with, command_named, files_in, named, program_files_in, program_named, program_options, run_options, self_options, self_run_in, where_allowed};
 
 use crate::number::number_in;
 use crate::options::{needed_value, value_of};
@@ -248,7 +248,7 @@ fn dis_command(words: &[String]) -> Option<Command<'_>>
 
 // What a command with these options asks for.
 fn command_by<'a>(name: &str, words: &'a [String]) -> Option<Command<'a>>
-    ensures { let asked = asked_by name.now (options_of (map string_bytes words.now)) in
+    ensures { let asked = asked_with name.now (options_of (map string_bytes words.now)) in
         MatchOption result (asked ≡ None) (λ c. asked ≡ Some (command_named c)) }
 {
     if name == "run" {

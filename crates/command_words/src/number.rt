@@ -1,7 +1,7 @@
 // Numbers in words.
 ghost use Rattle.std.specs.Prelude.{◌≡◌, ◌<◌, ◌≤◌, IfSome, true, MatchOption};
 ghost use Rattle.conda_base.specs.Digits.{number_after};
-ghost use Rattle.command_words.specs.Options.{number_in};
+ghost use Rattle.command_words.specs.Options.{number_within};
 
 use conda_base::is_numeral;
 
@@ -23,7 +23,7 @@ fn number_up_to(digits: &[u8], most: u64) -> Option<u64>
 
 /// The number that a word is, where it lies in this range.
 pub fn number_in(from: u64, to: u64, word: &str) -> Option<u64>
-    ensures value { result ≡ number_in from to word.now }
+    ensures value { result ≡ number_within from to word.now }
     ensures range { IfSome result (λ n. (from ≤ n) × (n ≤ to)) }
 {
     let digits = word.as_bytes();

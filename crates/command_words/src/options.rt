@@ -1,7 +1,7 @@
 // The options that words give.
 ghost use Rattle.std.specs.Prelude.{◌≡◌, ◌<◌, MatchOption, IfSome, map, length, string_bytes, [], ◌∷◌, option_map, true, false};
 ghost use Rattle.std.specs.Option.{option_to_list};
-ghost use Rattle.command_words.specs.Options.{cut, given, is_whole, options_of, pair, suits, values_of};
+ghost use Rattle.command_words.specs.Options.{cut, given, is_whole, options_of, given_pair, suits, values_of};
 
 /// An option at the front of some words, and the words behind it.
 #[derive(Clone, Copy)]
@@ -13,7 +13,7 @@ pub struct FrontOption<'a> {
 
 fn parts_of(word: &str) -> Option<(&str, &str)>
     ensures { MatchOption result (is_whole word.now ≡ false)
-        (λ p. (is_whole word.now ≡ true) × (cut word.now ≡ pair p.0.now p.1.now)) }
+        (λ p. (is_whole word.now ≡ true) × (cut word.now ≡ given_pair p.0.now p.1.now)) }
 {
     word.split_once('=')
 }

@@ -33,6 +33,6 @@ abbrev pub lines_of : ℕ → List ℕ → List Line
 lines_of line_bytes addrs = with_all_new [] (map (line_at line_bytes) addrs)
 
 -- a line, if there is one
-abbrev pub list_of : Option Line → List Line
-list_of None = []
-list_of (Some l) = l ∷ []
+abbrev pub line_list : Option Line → List Line
+line_list None = []
+line_list (Some l) = l ∷ []

@@ -3,13 +3,13 @@ use Rattle.std.proofs.Common.{◌≡◌, ℕ, List, [], ◌∷◌, map, refl, sy
 use Rattle.std.specs.Prelude.{Option, Some, None}
 use Rattle.conda_host.specs.declared.outside.Role.TheVariants as role
 use Rattle.conda_host.specs.State.{HostState, IsReading}
-use Rattle.command_run.specs.Driving.{bytes_of}
+use Rattle.command_run.specs.Driving.{bytes_of_file}
 use Rattle.command_words.specs.Words.{ProgramFiles}
 use Rattle.elf_loader.specs.Plain.{plain}
 use Rattle.elf_loader.proofs.PlainFacts.{refusal-plain}
 use Rattle.rv32_asm.specs.declared.place.BadLine.{BadLine}
 use Rattle.rv32_asm.specs.Assembled.{Assembled, IsBad, IsSource, Source, address_of, first_bad, words_of}
-use Rattle.rv32_asm.specs.Pieces.{lines_of}
+use Rattle.rv32_asm.specs.Pieces.{text_lines}
 use Rattle.rv32_asm.specs.Programs.{IsProgram}
 use Rattle.rv32_asm.specs.Reading.{line_in}
 use Rattle.rv32_asm.specs.Sources.{source_in}
@@ -33,9 +33,9 @@ one_source [] (said ∷ source) h = absurd h
 one_source (line ∷ lines) [] h = absurd h
 one_source (line ∷ lines) (said ∷ source) h = rw (says_once line said h.0) (ap (λ s. said ∷ s) (one_source lines source h.1))
 
-read_source : (text : List ℕ) (source : Source) → IsSource (lines_of text) source → source_in text ≡ source
+read_source : (text : List ℕ) (source : Source) → IsSource (text_lines text) source → source_in text ≡ source
 unfolding source_in
-read_source text source h = one_source (lines_of text) source h
+read_source text source h = one_source (text_lines text) source h
 
 pub read_assembled : (text : List ℕ) (at : ℕ) (words : List ℕ) → Assembled text at words → image_read text ≡ Ok (plain at words)
 read_assembled text at words h =
@@ -69,7 +69,7 @@ loadable text at words said base size has =
 pub loadable_made : (files : ProgramFiles) (a b c : HostState) (image : List ℕ) (answer : Status) → IsMadeText image_read a files.source source_limit image → IsReading a b role.Source
     → Answers (file_command role.Program files.program) (text_outcome image) b c answer → HasLoadableImageAtDone files a c answer
 loadable_made files a b c image answer made read answers told done =
-    let text : List ℕ = bytes_of a files.source in
+    let text : List ℕ = bytes_of_file a files.source in
     let said : image_read text ≡ Ok image = ap image_read (made.held.bytes_are told) ∙ made.text_is in
     let is : IsAssembledImage text image = subst (SaysImage text) said (says_read text) in
     record {

@@ -9,7 +9,7 @@ use Rattle.chip_laws.specs.Design.{design_for}
 use Rattle.command_words.specs.Words.{Files}
 use Rattle.conda_engine.specs.declared.status.Status.{Status}
 use Rattle.conda_engine.specs.declared.status.Status.TheVariants as status
-use Rattle.command_run.specs.Driving.{bytes_of}
+use Rattle.command_run.specs.Driving.{bytes_of_file}
 use Rattle.conda_engine.specs.Ends.{IsLate}
 use Rattle.conda_engine.specs.Faults.{IsAnswer, IsFaultCaused}
 use Rattle.conda_engine.specs.Files.{aim_of}
@@ -46,42 +46,42 @@ drive_ends_run files = record { opens = opens; creates = refl; first = refl; mem
 -- ---- the design of configuration and image
 
 pub design_same : (files : Files) (a : HostState) (p : PreparedView) (h : IsReadyFor files a p) → IsTrue a.tells
-    → design_of (settings p.config) h.image.bytes ≡ design_said (bytes_of a files.config) (bytes_of a files.image)
+    → design_of (settings p.config) h.image.bytes ≡ design_said (bytes_of_file a files.config) (bytes_of_file a files.image)
 design_same files a p h tells =
     ap (λ c. design_of c h.image.bytes) (sym (ap settings_or_none (ap configured (h.config.held.bytes_are tells) ∙ h.config.said)))
-    ∙ ap (design_said (bytes_of a files.config)) (sym (h.image.held.bytes_are tells))
+    ∙ ap (design_said (bytes_of_file a files.config)) (sym (h.image.held.bytes_are tells))
 
 -- ---- the aim of a schedule on the chip that configuration and image say is that of all three
 
 aim_same : (o : Account) (files : Files) (a b : HostState) (p : PreparedView) (h : IsReadyFor files a p) → OnlyOpens is_first a b → IsTrue a.tells
-    → aim_of_schedule o (design_of (settings p.config) h.image.bytes) (bytes_of b files.schedule) ≡ aim_of o files a
+    → aim_of_schedule o (design_of (settings p.config) h.image.bytes) (bytes_of_file b files.schedule) ≡ aim_of o files a
 aim_same o files a b p h r tells =
     let config : Settings = settings p.config in
     let image : List ℕ = h.image.bytes in
-    let schedule : List ℕ = bytes_of b files.schedule in
-    let shown : image ≡ bytes_of a files.image = sym (h.image.held.bytes_are tells) in
-    let told : schedule ≡ bytes_of a files.schedule = ap (λ f. unwrap_or f []) (r.files files.schedule) in
-    let verdict : status_of_schedule (design_of config image) schedule ≡ status_of_bytes (bytes_of a files.config) (bytes_of a files.image) (bytes_of a files.schedule) =
+    let schedule : List ℕ = bytes_of_file b files.schedule in
+    let shown : image ≡ bytes_of_file a files.image = sym (h.image.held.bytes_are tells) in
+    let told : schedule ≡ bytes_of_file a files.schedule = ap (λ f. unwrap_or f []) (r.files files.schedule) in
+    let verdict : status_of_schedule (design_of config image) schedule ≡ status_of_bytes (bytes_of_file a files.config) (bytes_of_file a files.image) (bytes_of_file a files.schedule) =
     sym (verdict_of_schedule config image schedule h.image.held.within h.image.accepted)
     ∙ ap (λ i. status_of_image config i schedule) shown
-    ∙ sym (verdict_of_image a files.config config (bytes_of a files.image) schedule h.config tells)
-    ∙ ap (status_of_bytes (bytes_of a files.config) (bytes_of a files.image)) told in
+    ∙ sym (verdict_of_image a files.config config (bytes_of_file a files.image) schedule h.config tells)
+    ∙ ap (status_of_bytes (bytes_of_file a files.config) (bytes_of_file a files.image)) told in
     ap (λ v. aim_with o v (design_of config image) schedule) verdict
     ∙ ap (λ d. aim_with o (aim_of o files a).verdict d schedule) (design_same files a p h tells)
-    ∙ ap (aim_with o (aim_of o files a).verdict (design_said (bytes_of a files.config) (bytes_of a files.image))) told
+    ∙ ap (aim_with o (aim_of o files a).verdict (design_said (bytes_of_file a files.config) (bytes_of_file a files.image))) told
 
 -- ---- a run that was made ready and driven
 
 run_answers : (o : Account) (files : Files) (a b c : HostState) (p : PreparedView) (answer : Status) → IsLate answer → IsReadyFor files a p → OnlyOpens is_first a b
-    → Answers (drive_command p.files) (schedule_outcome o (design_in p) (bytes_of b p.files.schedule)) b c answer → Answers (run_command files) (run_outcome o files a) a c answer
+    → Answers (drive_command p.files) (schedule_outcome o (design_in p) (bytes_of_file b p.files.schedule)) b c answer → Answers (run_command files) (run_outcome o files a) a c answer
 run_answers o files a b c p answer late h r answers =
-    answers_after (drive_command files) (run_command files) is_first (schedule_outcome o (design_in p) (bytes_of b files.schedule)) (run_outcome o files a) a b c answer
+    answers_after (drive_command files) (run_command files) is_first (schedule_outcome o (design_in p) (bytes_of_file b files.schedule)) (run_outcome o files a) a b c answer
     (drive_ends_run files) (first_opened files answer late) r
-    (λ tells. ap outcome_of (ap (λ image. aim_of_schedule o (design_for p.config image) (bytes_of b files.schedule)) h.image.loaded ∙ aim_same o files a b p h r tells))
-    (subst (λ f. Answers (drive_command f) (schedule_outcome o (design_in p) (bytes_of b f.schedule)) b c answer) h.named answers)
+    (λ tells. ap outcome_of (ap (λ image. aim_of_schedule o (design_for p.config image) (bytes_of_file b files.schedule)) h.image.loaded ∙ aim_same o files a b p h r tells))
+    (subst (λ f. Answers (drive_command f) (schedule_outcome o (design_in p) (bytes_of_file b f.schedule)) b c answer) h.named answers)
 
 pub answers_for : (o : Account) (w : Option Files) (a b c : HostState) (p : PreparedView) (answer : Status) → IsLate answer → IfSome w (λ files. IsReadyFor files a p) → OnlyOpens is_first a b
-    → Answers (drive_command p.files) (schedule_outcome o (design_in p) (bytes_of b p.files.schedule)) b c answer → IfSome w (λ files. Answers (run_command files) (run_outcome o files a) a c answer)
+    → Answers (drive_command p.files) (schedule_outcome o (design_in p) (bytes_of_file b p.files.schedule)) b c answer → IfSome w (λ files. Answers (run_command files) (run_outcome o files a) a c answer)
 answers_for o None a b c p answer late h r answers = tt
 answers_for o (Some files) a b c p answer late h r answers = run_answers o files a b c p answer late h r answers
 
@@ -148,7 +148,7 @@ unready_for o (Some files) a c answer h r =
     answers_early (run_command files) (unready_opens answer) (run_outcome o files a) a c answer (early_opened files answer h.early) (none_early files answer h.early) r
     (unready_cause o files a c answer h.early h.caused (go h.answered))
   where
-    go : (answer ≡ status.OutOfMemory) ⊎ ((schedule : List ℕ) → IsAnswer files a c (status_of_bytes (bytes_of a files.config) (bytes_of a files.image) schedule) answer)
+    go : (answer ≡ status.OutOfMemory) ⊎ ((schedule : List ℕ) → IsAnswer files a c (status_of_bytes (bytes_of_file a files.config) (bytes_of_file a files.image) schedule) answer)
         → (answer ≡ status.OutOfMemory) ⊎ IsAnswer files a c (aim_of o files a).verdict answer
     go (inl e) = inl e
-    go (inr f) = inr (f (bytes_of a files.schedule))
+    go (inr f) = inr (f (bytes_of_file a files.schedule))

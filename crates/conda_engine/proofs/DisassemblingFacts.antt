@@ -3,7 +3,7 @@ use Rattle.std.proofs.Common.{◌≡◌, ◌≤◌, ◌<◌, ℕ, IsTrue, List, 
 use Rattle.std.specs.Prelude.{Some}
 use Rattle.conda_host.specs.declared.outside.Role.TheVariants as role
 use Rattle.conda_host.specs.State.{HostState, IsReading}
-use Rattle.command_run.specs.Driving.{bytes_of}
+use Rattle.command_run.specs.Driving.{bytes_of_file}
 use Rattle.command_words.specs.Words.{ProgramFiles}
 use Rattle.conda_engine.specs.declared.status.Status.{Status}
 use Rattle.conda_engine.specs.declared.status.Status.TheVariants as status
@@ -18,10 +18,10 @@ use Rattle.conda_engine.proofs.LastFileFacts.{holds_text}
 
 -- ---- the text that is made says the program again
 
-pub text_made : (files : ProgramFiles) (a b c : HostState) (text : List ℕ) (answer : Status) → (IsTrue a.tells → IsTextThatComesBack (program_image (bytes_of a files.program)) text) → IsReading a b role.Program
+pub text_made : (files : ProgramFiles) (a b c : HostState) (text : List ℕ) (answer : Status) → (IsTrue a.tells → IsTextThatComesBack (program_image (bytes_of_file a files.program)) text) → IsReading a b role.Program
     → Answers (file_command role.Source files.source) (text_outcome text) b c answer → HasTextThatComesBackAtDone files a c answer
 text_made files a b c text answer back read answers told done =
-    let is : IsTextThatComesBack (program_image (bytes_of a files.program)) text = back told in
+    let is : IsTextThatComesBack (program_image (bytes_of_file a files.program)) text = back told in
     record {
       text = holds_text role.Source files.source text b c answer answers (told_after read.later told) done ∙ ap Some is.text_is;
       back = is.back;

@@ -19,7 +19,7 @@ use Rattle.machine_run.specs.declared.run.Run.{Run}
 use Rattle.machine_run.specs.declared.ending.Ending.{Ending}
 use Rattle.machine_run.specs.declared.ending.Ending.TheVariants as Ending_is
 use Rattle.command_run.specs.Names.{Names, CreatesOnceOpened, FaultRose, opened_by, all_files, text_files, text_uses, all_uses, run_uses}
-use Rattle.command_run.specs.Driving.{LeavesFiles, CreatedHoldsFront, CreatedHoldFronts, HasRunTexts, HasRunEvents, HoldTexts, HoldsFrontAt, TextFronts, bytes_of}
+use Rattle.command_run.specs.Driving.{LeavesFiles, CreatedHoldsFront, CreatedHoldFronts, HasRunTexts, HasRunEvents, HoldTexts, HoldsFrontAt, TextFronts, bytes_of_file}
 use Rattle.command_words.specs.Words.{Files}
 use Rattle.conda_engine.specs.declared.status.Status.{Status}
 use Rattle.conda_engine.specs.declared.status.Status.TheVariants as status
@@ -237,22 +237,22 @@ drive_stands m shown names d bytes a b run (Err (fault.Write r)) ends = λ told 
 
 pub answers_named : {A : Type 0} (m : Ghosts A) (shown : A → View) (report : Design → List Actor → List ℕ) → ShowsReport m shown report
     → (names : Names) (files : Files) (d : Design) (a b : HostState) (run : Run A) (ran : Result Ending Fault) → names ≡ run_names_of files
-    → (IsTrue a.tells → LeavesFiles m shown names d (bytes_of a names.schedule) b run ran)
-    → OnErr ran (IsTrue a.tells → CreatedHoldFronts m shown names d (bytes_of a names.schedule) a b run)
+    → (IsTrue a.tells → LeavesFiles m shown names d (bytes_of_file a names.schedule) b run ran)
+    → OnErr ran (IsTrue a.tells → CreatedHoldFronts m shown names d (bytes_of_file a names.schedule) a b run)
     → IfErr ran (FaultRose names a b)
     → CreatesOnceOpened a b
     → KeepsTo (run_uses names ran) a b
-    → Answers (drive_command files) (schedule_outcome (account_of m report) d (bytes_of a files.schedule)) a b (status_of_run ran)
+    → Answers (drive_command files) (schedule_outcome (account_of m report) d (bytes_of_file a files.schedule)) a b (status_of_run ran)
 answers_named m shown report shows names files d a b run ran same ends fronts cause once keeps =
-    drive_answers m shown report shows files d (bytes_of a files.schedule) a b run ran
-    (subst (λ n. IsTrue a.tells → LeavesFiles m shown n d (bytes_of a n.schedule) b run ran) same ends)
-    (subst (λ n. OnErr ran (IsTrue a.tells → CreatedHoldFronts m shown n d (bytes_of a n.schedule) a b run)) same fronts)
+    drive_answers m shown report shows files d (bytes_of_file a files.schedule) a b run ran
+    (subst (λ n. IsTrue a.tells → LeavesFiles m shown n d (bytes_of_file a n.schedule) b run ran) same ends)
+    (subst (λ n. OnErr ran (IsTrue a.tells → CreatedHoldFronts m shown n d (bytes_of_file a n.schedule) a b run)) same fronts)
     (subst (λ n. IfErr ran (FaultRose n a b)) same cause)
     once
     (subst (λ n. KeepsTo (run_uses n ran) a b) same keeps)
 
 pub stands_named : {A : Type 0} (m : Ghosts A) (shown : A → View) (names : Names) (files : Files) (d : Design) (a b : HostState) (run : Run A) (ran : Result Ending Fault) → names ≡ run_names_of files
-    → (IsTrue a.tells → LeavesFiles m shown names d (bytes_of a names.schedule) b run ran)
-    → StandsAfter m d a (bytes_of a files.schedule) (status_of_run ran) run.machine
+    → (IsTrue a.tells → LeavesFiles m shown names d (bytes_of_file a names.schedule) b run ran)
+    → StandsAfter m d a (bytes_of_file a files.schedule) (status_of_run ran) run.machine
 stands_named m shown names files d a b run ran same ends =
-    subst (λ n. StandsAfter m d a (bytes_of a n.schedule) (status_of_run ran) run.machine) same (drive_stands m shown names d (bytes_of a names.schedule) a b run ran ends)
+    subst (λ n. StandsAfter m d a (bytes_of_file a n.schedule) (status_of_run ran) run.machine) same (drive_stands m shown names d (bytes_of_file a names.schedule) a b run ran ends)

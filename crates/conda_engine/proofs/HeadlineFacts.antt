@@ -4,7 +4,7 @@ use Rattle.std.specs.Prelude.{Option, Some, None, IfSome, unwrap_or}
 use Rattle.conda_host.specs.State.{HostState}
 use Rattle.chip_laws.specs.Design.{Design, design_for}
 use Rattle.chip_laws.specs.Lawful.{AreLawful}
-use Rattle.command_run.specs.Driving.{bytes_of}
+use Rattle.command_run.specs.Driving.{bytes_of_file}
 use Rattle.command_words.specs.Words.{Files}
 use Rattle.conda_engine.specs.declared.status.Status.{Status}
 use Rattle.conda_engine.specs.declared.status.Status.TheVariants as status
@@ -23,26 +23,26 @@ ready_design files a p h tells =
     ap (λ image. design_for p.config image) h.image.loaded ∙ design_same files a p h tells
 
 lawful_at_done : (files : Files) (a b : HostState) (p : PreparedView) (h : IsReadyFor files a p) → OnlyOpens is_first a b → IsTrue a.tells
-    → HoldsOfRun AreLawful (design_in p) b (bytes_of b p.files.schedule) status.Done → AreLawful (design_of_files files a) (events_of_files files a)
+    → HoldsOfRun AreLawful (design_in p) b (bytes_of_file b p.files.schedule) status.Done → AreLawful (design_of_files files a) (events_of_files files a)
 lawful_at_done files a b p h r tells holds =
     let P : Design → List ℕ → Type 0 = λ d schedule. AreLawful d (all_events d schedule) in
-    let told : bytes_of b p.files.schedule ≡ bytes_of a files.schedule =
-    ap (λ (f : Files). bytes_of b f.schedule) h.named ∙ ap (λ f. unwrap_or f []) (r.files files.schedule) in
+    let told : bytes_of_file b p.files.schedule ≡ bytes_of_file a files.schedule =
+    ap (λ (f : Files). bytes_of_file b f.schedule) h.named ∙ ap (λ f. unwrap_or f []) (r.files files.schedule) in
     subst (P (design_of_files files a)) told
-    (subst (λ d. P d (bytes_of b p.files.schedule)) (ready_design files a p h tells)
+    (subst (λ d. P d (bytes_of_file b p.files.schedule)) (ready_design files a p h tells)
     (holds (subst IsTrue (sym r.later.tells) tells) tt))
 
 run_headline : (files : Files) (a b c : HostState) (p : PreparedView) (answer : Status) → IsReadyFor files a p → OnlyOpens is_first a b
     → Answers (run_command files) (run_outcome chip_account files a) a c answer
-    → HoldsOfRun AreLawful (design_in p) b (bytes_of b p.files.schedule) answer → HasHeadlineAtDone files a c answer
+    → HoldsOfRun AreLawful (design_in p) b (bytes_of_file b p.files.schedule) answer → HasHeadlineAtDone files a c answer
 run_headline files a b c p answer h r answers holds tells done = record {
   texts = run_done chip_account files a c answer answers done;
-  lawful = lawful_at_done files a b p h r tells (subst (HoldsOfRun AreLawful (design_in p) b (bytes_of b p.files.schedule)) done holds);
+  lawful = lawful_at_done files a b p h r tells (subst (HoldsOfRun AreLawful (design_in p) b (bytes_of_file b p.files.schedule)) done holds);
 }
 
 pub headline_for : (w : Option Files) (a b c : HostState) (p : PreparedView) (answer : Status) → IfSome w (λ files. IsReadyFor files a p) → OnlyOpens is_first a b
     → IfSome w (λ files. Answers (run_command files) (run_outcome chip_account files a) a c answer)
-    → HoldsOfRun AreLawful (design_in p) b (bytes_of b p.files.schedule) answer → IfSome w (λ files. HasHeadlineAtDone files a c answer)
+    → HoldsOfRun AreLawful (design_in p) b (bytes_of_file b p.files.schedule) answer → IfSome w (λ files. HasHeadlineAtDone files a c answer)
 headline_for None a b c p answer h r answers holds = tt
 headline_for (Some files) a b c p answer h r answers holds = run_headline files a b c p answer h r answers holds
 

@@ -9,7 +9,7 @@ use Rattle.chip_config.specs.Settings.{Settings, configured}
 use Rattle.elf_loader.specs.declared.fault.ImageFault.{ImageFault}
 use Rattle.streams.specs.Using.{KeepsTo}
 use Rattle.command_run.specs.Names.{all_files, text_files}
-use Rattle.command_run.specs.Driving.{HoldsFrontAt, CreatedHoldsFront, bytes_of}
+use Rattle.command_run.specs.Driving.{HoldsFrontAt, CreatedHoldsFront, bytes_of_file}
 use Rattle.command_words.specs.Words.{Files, AreApart}
 use Rattle.conda_engine.specs.declared.status.Status.{Status}
 use Rattle.conda_engine.specs.declared.status.Status.TheVariants as status
@@ -297,9 +297,9 @@ run_done o files a b answer h = each_done (aim_of o files a) files a b answer wh
   where
     whole : status.Done ≡ (aim_of o files a).verdict → (aim_of o files a).texts ≡ (aim_of o files a).whole
     whole e =
-        let d = design_said (bytes_of a files.config) (bytes_of a files.image) in
-        let schedule : List ℕ = bytes_of a files.schedule in
-        ap (texts_of_events o d) (all_at_done d schedule (schedule_at_done (bytes_of a files.config) (bytes_of a files.image) schedule (sym e)))
+        let d = design_said (bytes_of_file a files.config) (bytes_of_file a files.image) in
+        let schedule : List ℕ = bytes_of_file a files.schedule in
+        ap (texts_of_events o d) (all_at_done d schedule (schedule_at_done (bytes_of_file a files.config) (bytes_of_file a files.image) schedule (sym e)))
 
 pub run_stopped : OfRun HasStoppedAt
 run_stopped = of_run each_stopped
@@ -329,7 +329,7 @@ as_run o files a b answer h = answers_after (drive_command files) (run_command f
 
 of_drive : {claim : Aim → Files → HostState → HostState → Status → Type 0} → OfAim claim → OfDrive claim
 of_drive each o s files a b answer h =
-    let aim = aim_of_schedule o s (bytes_of a files.schedule) in
+    let aim = aim_of_schedule o s (bytes_of_file a files.schedule) in
     each aim files a b answer (as_run (outcome_of aim) files a b answer h)
 
 pub drive_cause : OfDrive IsAnswerCaused
@@ -342,14 +342,14 @@ takes_none o files a b answer h e = let no : false ≡ true = subst (HasCause (d
 pub drive_answer : OfDrive IsDriveAnswer
 drive_answer o s files a b answer h = go (of_drive each_answer o s files a b answer h)
   where
-    go : (answer ≡ status.OutOfMemory) ⊎ IsAnswer files a b (aim_of_schedule o s (bytes_of a files.schedule)).verdict answer → IsAnswer files a b (aim_of_schedule o s (bytes_of a files.schedule)).verdict answer
+    go : (answer ≡ status.OutOfMemory) ⊎ IsAnswer files a b (aim_of_schedule o s (bytes_of_file a files.schedule)).verdict answer → IsAnswer files a b (aim_of_schedule o s (bytes_of_file a files.schedule)).verdict answer
     go (inl e) = takes_none _ files a b answer h e
     go (inr e) = e
 
 pub drive_complete : OfDrive IsDriveComplete
 drive_complete o s files a b answer h = go (of_drive each_complete o s files a b answer h)
   where
-    go : (answer ≡ status.OutOfMemory) ⊎ IsComplete a b (aim_of_schedule o s (bytes_of a files.schedule)).verdict answer → IsComplete a b (aim_of_schedule o s (bytes_of a files.schedule)).verdict answer
+    go : (answer ≡ status.OutOfMemory) ⊎ IsComplete a b (aim_of_schedule o s (bytes_of_file a files.schedule)).verdict answer → IsComplete a b (aim_of_schedule o s (bytes_of_file a files.schedule)).verdict answer
     go (inl e) = takes_none _ files a b answer h e
     go (inr e) = e
 
@@ -358,7 +358,7 @@ drive_later o s files a b answer h = h.keeps.later
 
 pub drive_done : OfDrive IsDoneWhole
 drive_done o d files a b answer h =
-    let schedule : List ℕ = bytes_of a files.schedule in
+    let schedule : List ℕ = bytes_of_file a files.schedule in
     let aim = aim_of_schedule o d schedule in
     each_done aim files a b answer (λ e. ap (texts_of_events o d) (all_at_done d schedule (sym e))) (as_run (outcome_of aim) files a b answer h)
 

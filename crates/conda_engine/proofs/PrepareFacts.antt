@@ -4,7 +4,7 @@ use Rattle.std.specs.Prelude.{None, nat_lt}
 use Rattle.std.proofs.lemmas.Bool.Decides.{nat_tests}
 use Rattle.conda_host.specs.State.{HostState}
 use Rattle.chip_config.specs.Settings.{Settings}
-use Rattle.command_run.specs.Driving.{bytes_of}
+use Rattle.command_run.specs.Driving.{bytes_of_file}
 use Rattle.conda_engine.specs.Preparing.{IsConfigured}
 use Rattle.conda_engine.specs.Verdict.{config_limit, image_limit, refusal_of, design_of, status_of_bytes, status_of_image, status_of_schedule, after_config, after_image}
 
@@ -15,7 +15,7 @@ below limit n within = grind (arith, nat_tests)
 
 -- a configuration that is taken leaves the verdict to the image
 pub verdict_of_image : (old : HostState) (name : List ℕ) (config : Settings) (image schedule : List ℕ) → IsConfigured old name config → IsTrue old.tells
-    → status_of_bytes (bytes_of old name) image schedule ≡ status_of_image config image schedule
+    → status_of_bytes (bytes_of_file old name) image schedule ≡ status_of_image config image schedule
 verdict_of_image old name config image schedule is tells =
     ap (λ b. status_of_bytes b image schedule) (is.held.bytes_are tells)
     ∙ rw (below config_limit (length is.bytes) is.held.within) (ap (λ r. after_config r image schedule) is.said)

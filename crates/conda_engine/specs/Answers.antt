@@ -38,12 +38,12 @@ opened_at k answer r = is_some (k.opens answer r)
 abbrev pub uses_at : Command → Status → Uses
 uses_at k answer = record { opens = opened_at k answer; creates = k.creates answer }
 
-abbrev pub no_file : Role → Option (List ℕ)
-no_file r = None
+abbrev pub no_name : Role → Option (List ℕ)
+no_name r = None
 
 -- the same, where it has created no file
 abbrev pub uses_before : Command → Status → Uses
-uses_before k answer = record { opens = opened_at k answer; creates = no_file }
+uses_before k answer = record { opens = opened_at k answer; creates = no_name }
 
 -- an answer that says that the host failed
 abbrev pub is_fault : Status → Bool

@@ -2,7 +2,7 @@
 use Rattle.std.specs.Prelude.{◌≡◌, ℕ, List, Option, Some, None, Result, Ok, Err}
 use Rattle.conda_host.specs.declared.outside.Role.TheVariants as role
 use Rattle.conda_host.specs.State.{HostState}
-use Rattle.command_run.specs.Driving.{bytes_of}
+use Rattle.command_run.specs.Driving.{bytes_of_file}
 use Rattle.command_words.specs.Words.{ProgramFiles}
 use Rattle.elf_loader.specs.Plain.{plain}
 use Rattle.rv32_asm.specs.declared.place.BadLine.{BadLine}
@@ -42,8 +42,8 @@ asm_outcome said text = making_outcome role.Source source_limit said text
 pub record AsmAnswers (files : ProgramFiles) (old new : HostState) (answer : Status)
     : Type 0 where
   pub said : Result (List ℕ) Status
-  pub says : SaysImage (bytes_of old files.source) said
-  pub answers : Answers (asm_command files) (asm_outcome said (bytes_of old files.source)) old new
+  pub says : SaysImage (bytes_of_file old files.source) said
+  pub answers : Answers (asm_command files) (asm_outcome said (bytes_of_file old files.source)) old new
       answer
 
 -- an answer of it: it is done, its text wasn't read or has a bad line, its image failed, or memory

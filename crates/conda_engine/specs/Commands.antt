@@ -4,7 +4,7 @@ use Rattle.std.specs.declared.alloc.Global.{Global}
 use Rattle.std.specs.declared.string.String.{String}
 use Rattle.conda_host.specs.State.{HostState}
 use Rattle.chip_laws.specs.Lawful.{AreLawful}
-use Rattle.command_run.specs.Driving.{bytes_of}
+use Rattle.command_run.specs.Driving.{bytes_of_file}
 use Rattle.command_words.specs.Words.{Asked, Run, SelfRun, Asm, Dis, asked}
 use Rattle.self_workload.specs.Workload.{events_of_seed}
 use Rattle.self_run.specs.Designs.{design_of_seed}
@@ -31,7 +31,7 @@ AnswersAsked old new answer (Run files) =
     Answers (run_command files) (run_outcome chip_account files old) old new answer
 AnswersAsked old new answer (Asm files) = AsmAnswers files old new answer
 AnswersAsked old new answer (Dis files) =
-    Answers (dis_command files) (dis_outcome (bytes_of old files.program)) old new answer
+    Answers (dis_command files) (dis_outcome (bytes_of_file old files.program)) old new answer
 AnswersAsked old new answer (SelfRun seed events report) =
     Answers (self_command report) (self_outcome chip_account seed events) old new answer
 

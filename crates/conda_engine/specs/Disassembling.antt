@@ -35,8 +35,8 @@ abbrev pub words_of_image : ImageView → List ℕ
 words_of_image image = words_in (bytes_behind image.code image.entry)
 
 -- a word's line, with its line feed
-abbrev pub line_of : ℕ → List ℕ
-line_of word = word_line word ++ 10 ∷ []
+abbrev pub line_of_word : ℕ → List ℕ
+line_of_word word = word_line word ++ 10 ∷ []
 
 -- the text of an image
 abbrev pub dis_text : ImageView → List ℕ

@@ -3,7 +3,7 @@ use Rattle.std.specs.Prelude.{List, Option, map, option_map, string_bytes}
 use Rattle.std.specs.declared.alloc.Global.{Global}
 use Rattle.std.specs.declared.string.String.{String}
 use Rattle.conda_host.specs.State.{HostState}
-use Rattle.command_run.specs.Driving.{bytes_of}
+use Rattle.command_run.specs.Driving.{bytes_of_file}
 use Rattle.command_run.specs.Names.{Names}
 use Rattle.command_words.specs.Words.{Files, run_files}
 use Rattle.conda_engine.specs.declared.files.FileWords.{FileWords}
@@ -36,4 +36,4 @@ run_names_of files = record {
 -- what the files of configuration, image and schedule lead to
 abbrev pub aim_of : Account → Files → HostState → Aim
 aim_of a files s =
-    aim_of_bytes a (bytes_of s files.config) (bytes_of s files.image) (bytes_of s files.schedule)
+    aim_of_bytes a (bytes_of_file s files.config) (bytes_of_file s files.image) (bytes_of_file s files.schedule)

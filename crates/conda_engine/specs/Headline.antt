@@ -4,7 +4,7 @@ use Rattle.conda_base.specs.declared.actor.Actor.{Actor}
 use Rattle.conda_host.specs.State.{HostState}
 use Rattle.chip_laws.specs.Design.{Design}
 use Rattle.chip_laws.specs.Lawful.{AreLawful}
-use Rattle.command_run.specs.Driving.{bytes_of}
+use Rattle.command_run.specs.Driving.{bytes_of_file}
 use Rattle.command_words.specs.Words.{Files}
 use Rattle.conda_engine.specs.declared.status.Status.{Status}
 use Rattle.conda_engine.specs.declared.status.Status.TheVariants as status
@@ -13,11 +13,11 @@ use Rattle.conda_engine.specs.Verdict.{all_events, chip_account, design_said, te
 
 -- what the files of configuration and image say
 abbrev pub design_of_files : Files → HostState → Design
-design_of_files files s = design_said (bytes_of s files.config) (bytes_of s files.image)
+design_of_files files s = design_said (bytes_of_file s files.config) (bytes_of_file s files.image)
 
 -- all events of the schedule's file
 abbrev pub events_of_files : Files → HostState → List Actor
-events_of_files files s = all_events (design_of_files files s) (bytes_of s files.schedule)
+events_of_files files s = all_events (design_of_files files s) (bytes_of_file s files.schedule)
 
 -- Order, report and output are the texts of all events of the schedule, by one flat memory that
 -- executes the written order; and these events are lawful.

@@ -4,7 +4,7 @@ use Rattle.conda_host.specs.declared.outside.Role.{Role}
 use Rattle.conda_host.specs.Role.{index_of}
 use Rattle.conda_engine.specs.declared.status.Status.{Status}
 use Rattle.conda_engine.specs.declared.status.Status.TheVariants as status
-use Rattle.conda_engine.specs.Answers.{Command, Outcome, no_file}
+use Rattle.conda_engine.specs.Answers.{Command, Outcome, no_name}
 
 -- one role's file
 abbrev pub file_of_role : Role → List ℕ → Role → Option (List ℕ)
@@ -15,10 +15,10 @@ file_of_role role name r = if index_of role == index_of r then Some name else No
 abbrev pub created_last : Role → List ℕ → Status → Role → Option (List ℕ)
 created_last role name status.Done = file_of_role role name
 created_last role name (status.WriteFault r) = file_of_role role name
-created_last role name other = no_file
+created_last role name other = no_name
 
 abbrev pub opens_nothing : Status → Role → Option (List ℕ)
-opens_nothing answer = no_file
+opens_nothing answer = no_name
 
 -- the steps that make it
 abbrev pub file_command : Role → List ℕ → Command

@@ -4,7 +4,7 @@ use Rattle.conda_host.specs.declared.outside.Role.{Role}
 use Rattle.conda_host.specs.declared.outside.Role.TheVariants as role
 use Rattle.conda_host.specs.State.{HostState, IsLater, KeepsOpened, is_created, is_opened, Rose}
 use Rattle.chip_laws.specs.Design.{Design}
-use Rattle.command_run.specs.Driving.{bytes_of}
+use Rattle.command_run.specs.Driving.{bytes_of_file}
 use Rattle.command_words.specs.Words.{Files, AreApart}
 use Rattle.conda_engine.specs.declared.status.Status.{Status}
 use Rattle.conda_engine.specs.declared.status.Status.TheVariants as status
@@ -49,9 +49,9 @@ OfRun claim = (a : Account) (files : Files) (old new : HostState) (answer : Stat
 -- a claim of every answer of these steps
 abbrev pub OfDrive : (Aim → Files → HostState → HostState → Status → Type 0) → Type 0
 OfDrive claim = (a : Account) (d : Design) (files : Files) (old new : HostState) (answer : Status)
-    → Answers (drive_command files) (schedule_outcome a d (bytes_of old files.schedule)) old new
+    → Answers (drive_command files) (schedule_outcome a d (bytes_of_file old files.schedule)) old new
     answer
-    → claim (aim_of_schedule a d (bytes_of old files.schedule)) files old new answer
+    → claim (aim_of_schedule a d (bytes_of_file old files.schedule)) files old new answer
 
 -- it is what the bytes lead to, or the host failed
 abbrev pub IsDriveAnswer : Aim → Files → HostState → HostState → Status → Type 0

@@ -2,7 +2,7 @@
 use Rattle.std.specs.Prelude.{◌≡◌, ℕ, ◌≤◌, true, List, [], IsTrue, Option, None, Result, Ok, Err, length, if◌then◌else◌, nat_lt}
 use Rattle.conda_host.specs.declared.outside.Role.{Role}
 use Rattle.conda_host.specs.State.{HostState}
-use Rattle.command_run.specs.Driving.{bytes_of}
+use Rattle.command_run.specs.Driving.{bytes_of_file}
 use Rattle.conda_engine.specs.declared.status.Status.{Status}
 use Rattle.conda_engine.specs.declared.status.Status.TheVariants as status
 use Rattle.conda_engine.specs.Answers.{Command, Outcome}
@@ -52,7 +52,7 @@ pub record IsMadeText (said : List ℕ → Result (List ℕ) Status) (old : Host
 -- a file's bytes are refused with this answer
 abbrev pub IsRefused : (List ℕ → Result (List ℕ) Status) → HostState → List ℕ → ℕ → Status → Type 0
 IsRefused said old name limit answer =
-    IsTrue old.tells → (length (bytes_of old name) ≤ limit) × (said (bytes_of old name) ≡ Err answer)
+    IsTrue old.tells → (length (bytes_of_file old name) ≤ limit) × (said (bytes_of_file old name) ≡ Err answer)
 
 -- why a file says none
 abbrev pub IsMakeError : (List ℕ → Result (List ℕ) Status) → HostState → HostState → Role

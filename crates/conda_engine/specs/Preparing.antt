@@ -8,7 +8,7 @@ use Rattle.chip_config.specs.declared.config.Config.{Config}
 use Rattle.chip_config.specs.Settings.{Settings, configured, settings}
 use Rattle.elf_loader.specs.Image.{ImageView, image_of}
 use Rattle.chip_laws.specs.Design.{Design, design_for}
-use Rattle.command_run.specs.Driving.{bytes_of}
+use Rattle.command_run.specs.Driving.{bytes_of_file}
 use Rattle.command_words.specs.Words.{Files}
 use Rattle.conda_engine.specs.declared.status.Status.{Status}
 use Rattle.conda_engine.specs.declared.status.Status.TheVariants as status
@@ -67,14 +67,14 @@ design_in p = design_for p.config p.image
 
 -- these are the bytes of a file, within a limit
 pub record HoldsFile (old : HostState) (name : List ℕ) (limit : ℕ) (bytes : List ℕ) : Type 0 where
-  pub bytes_are : IsTrue old.tells → bytes_of old name ≡ bytes
+  pub bytes_are : IsTrue old.tells → bytes_of_file old name ≡ bytes
   pub within : length bytes ≤ limit
 
 -- why a file isn't read
 abbrev pub IsFileError : HostState → HostState → Role → List ℕ → ℕ → Status → Type 0
 IsFileError old new role name limit (status.ReadFault r) = (r ≡ role) × Rose old new role name
 IsFileError old new role name limit (status.TooLarge r n) =
-    (r ≡ role) × (n ≡ limit) × (IsTrue old.tells → limit < length (bytes_of old name))
+    (r ≡ role) × (n ≡ limit) × (IsTrue old.tells → limit < length (bytes_of_file old name))
 IsFileError old new role name limit status.OutOfMemory = Unit {0}
 IsFileError old new role name limit other = ⊥
 
@@ -94,8 +94,8 @@ IsBytesError bytes other = ⊥
 -- why a file gives no configuration
 abbrev pub IsConfigError : HostState → HostState → List ℕ → Status → Type 0
 IsConfigError old new name (status.Config fault) =
-    IsTrue old.tells → (length (bytes_of old name) ≤ config_limit)
-    × (configured (bytes_of old name) ≡ Err fault)
+    IsTrue old.tells → (length (bytes_of_file old name) ≤ config_limit)
+    × (configured (bytes_of_file old name) ≡ Err fault)
 IsConfigError old new name other = IsFileError old new role.Config name config_limit other
 
 -- an image is that of a file, in a configuration's memory
@@ -116,8 +116,8 @@ IsImageError config bytes other = ⊥
 -- why a file gives no image
 abbrev pub IsLoadError : Settings → HostState → HostState → List ℕ → Status → Type 0
 IsLoadError config old new name (status.Image fault) =
-    IsTrue old.tells → (length (bytes_of old name) ≤ image_limit)
-    × (refusal_of config (bytes_of old name) ≡ Some fault)
+    IsTrue old.tells → (length (bytes_of_file old name) ≤ image_limit)
+    × (refusal_of config (bytes_of_file old name) ≡ Some fault)
 IsLoadError config old new name other = IsFileError old new role.Image name image_limit other
 
 -- a run of these files is ready: its configuration and its image are what their files say
@@ -144,4 +144,4 @@ pub record IsUnready (files : Files) (old new : HostState) (answer : Status) : T
   pub caused : IsFaultCaused files old new answer
   pub answered : (answer ≡ status.OutOfMemory)
       ⊎ ((schedule : List ℕ) → IsAnswer files old new
-      (status_of_bytes (bytes_of old files.config) (bytes_of old files.image) schedule) answer)
+      (status_of_bytes (bytes_of_file old files.config) (bytes_of_file old files.image) schedule) answer)

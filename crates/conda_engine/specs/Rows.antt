@@ -12,7 +12,7 @@ use Rattle.command_run.specs.Names.{all_files, text_files}
 use Rattle.command_words.specs.Words.{Files}
 use Rattle.conda_engine.specs.declared.status.Status.{Status}
 use Rattle.conda_engine.specs.declared.status.Status.TheVariants as status
-use Rattle.conda_engine.specs.Answers.{Command, Outcome, no_file}
+use Rattle.conda_engine.specs.Answers.{Command, Outcome, no_name}
 use Rattle.conda_engine.specs.Files.{aim_of, run_names_of}
 use Rattle.conda_engine.specs.Verdict.{Account, Aim, Texts, aim_of_schedule, status_of_verdict}
 
@@ -54,7 +54,7 @@ run_creates files (status.WriteFault other) = text_files (run_names_of files)
 run_creates files (status.ReadFault role.Schedule) = text_files (run_names_of files)
 run_creates files (status.Schedule line why) = text_files (run_names_of files)
 run_creates files (status.TooLarge role.Schedule limit) = text_files (run_names_of files)
-run_creates files other = no_file
+run_creates files other = no_name
 
 abbrev pub run_command : Files → Command
 run_command files = record {

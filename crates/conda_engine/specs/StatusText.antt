@@ -10,17 +10,17 @@ use Rattle.elf_loader.specs.declared.fault.ImageFault.TheVariants as fault
 use Rattle.conda_engine.specs.declared.status.Status.{Status}
 use Rattle.conda_engine.specs.declared.status.Status.TheVariants as status
 
-abbrev pub code_of : Status → ℕ
-code_of status.Done = 0
-code_of status.Usage = 2
-code_of (status.ReadFault r) = 3
-code_of (status.WriteFault r) = 4
-code_of (status.Config f) = 5
-code_of (status.Image f) = 6
-code_of (status.Schedule line why) = 7
-code_of (status.TooLarge r limit) = 8
-code_of status.OutOfMemory = 9
-code_of (status.Syntax line why) = 13
+abbrev pub status_code : Status → ℕ
+status_code status.Done = 0
+status_code status.Usage = 2
+status_code (status.ReadFault r) = 3
+status_code (status.WriteFault r) = 4
+status_code (status.Config f) = 5
+status_code (status.Image f) = 6
+status_code (status.Schedule line why) = 7
+status_code (status.TooLarge r limit) = 8
+status_code status.OutOfMemory = 9
+status_code (status.Syntax line why) = 13
 
 abbrev pub name_of_role : Role → List ℕ
 name_of_role role.Config = codes "config"
@@ -64,28 +64,28 @@ image_fault_number (fault.BadEntry entry) = 17
 image_fault_number fault.OutOfMemory = 0
 
 -- a space and the value that a fault holds, if it holds one
-abbrev pub held : ℕ → List ℕ
-held n = codes " " ++ decimal n
+abbrev pub held_number : ℕ → List ℕ
+held_number n = codes " " ++ decimal n
 
 abbrev pub config_fault_held : ConfigFault → List ℕ
-config_fault_held (config_fault.NotNumber key) = held key
-config_fault_held (config_fault.OutOfRange key number) = held key ++ held number
-config_fault_held (config_fault.BadMemory base bytes) = held base ++ held bytes
+config_fault_held (config_fault.NotNumber key) = held_number key
+config_fault_held (config_fault.OutOfRange key number) = held_number key ++ held_number number
+config_fault_held (config_fault.BadMemory base bytes) = held_number base ++ held_number bytes
 config_fault_held other = []
 
 abbrev pub image_fault_held : ImageFault → List ℕ
-image_fault_held (fault.BadFlags flags) = held flags
-image_fault_held (fault.TooManySegments many) = held many
-image_fault_held (fault.Dynamic k) = held k
-image_fault_held (fault.BadSegment k) = held k
-image_fault_held (fault.SegmentOutside k) = held k
-image_fault_held (fault.Overlap k) = held k
-image_fault_held (fault.BadEntry entry) = held entry
+image_fault_held (fault.BadFlags flags) = held_number flags
+image_fault_held (fault.TooManySegments many) = held_number many
+image_fault_held (fault.Dynamic k) = held_number k
+image_fault_held (fault.BadSegment k) = held_number k
+image_fault_held (fault.SegmentOutside k) = held_number k
+image_fault_held (fault.Overlap k) = held_number k
+image_fault_held (fault.BadEntry entry) = held_number entry
 image_fault_held other = []
 
 abbrev pub option_held : Option ℕ → List ℕ
 option_held None = []
-option_held (Some n) = held n
+option_held (Some n) = held_number n
 
 -- the status holds no want of memory, which has a status of its own
 abbrev pub IsTold : Status → Type 0

@@ -1,7 +1,7 @@
 -- What programs and their texts say of each other.
 use Rattle.std.specs.Prelude.{◌≡◌, ℕ, ◌+◌, ◌*◌, ◌^◌, ◌<◌, ◌%◌, ◌≤◌, ◌==◌, ◌&&◌, true, IsTrue, List, Some, None, length}
 use Rattle.conda_host.specs.State.{HostState}
-use Rattle.command_run.specs.Driving.{bytes_of}
+use Rattle.command_run.specs.Driving.{bytes_of_file}
 use Rattle.command_words.specs.Words.{ProgramFiles}
 use Rattle.elf_loader.specs.Image.{ImageView}
 use Rattle.elf_loader.specs.Plain.{plain}
@@ -31,7 +31,7 @@ IsNeverRefused at words = (base size : ℕ) → HasAddresses base size at (lengt
 pub record HasLoadableImage (files : ProgramFiles) (old new : HostState) : Type 0 where
   pub at : ℕ
   pub words : List ℕ
-  pub said : Assembled (bytes_of old files.source) at words
+  pub said : Assembled (bytes_of_file old files.source) at words
   pub image : new.file files.program ≡ Some (plain at words)
   pub loadable : IsNeverRefused at words
 
@@ -57,8 +57,8 @@ pub record IsTextThatComesBack (image : ImageView) (text : List ℕ) : Type 0 wh
 
 -- the text that was made is that of the program's image, and says its entry and words again
 pub record HasTextThatComesBack (files : ProgramFiles) (old new : HostState) : Type 0 where
-  pub text : new.file files.source ≡ Some (dis_text (program_image (bytes_of old files.program)))
-  pub back : ComesBack (program_image (bytes_of old files.program))
+  pub text : new.file files.source ≡ Some (dis_text (program_image (bytes_of_file old files.program)))
+  pub back : ComesBack (program_image (bytes_of_file old files.program))
 
 abbrev pub HasTextThatComesBackAtDone : ProgramFiles → HostState → HostState → Status → Type 0
 HasTextThatComesBackAtDone files old new answer =

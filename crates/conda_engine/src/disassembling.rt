@@ -4,10 +4,10 @@ ghost use Rattle.std.specs.Fmt.{decimal};
 ghost use Rattle.std.specs.List.{flat_map};
 ghost use Rattle.conda_host.specs.State.{IsReading};
 ghost use Rattle.conda_host.specs.declared.outside.Role.TheVariants as role;
-ghost use Rattle.command_run.specs.Driving.{bytes_of};
+ghost use Rattle.command_run.specs.Driving.{bytes_of_file};
 ghost use Rattle.command_words.specs.Words.{program_named};
 ghost use Rattle.conda_engine.specs.Answers.{Answers};
-ghost use Rattle.conda_engine.specs.Disassembling.{IsDisEnd, bytes_behind, dis_command, dis_outcome, dis_text, line_of, range_at, program_image, text_said, words_in};
+ghost use Rattle.conda_engine.specs.Disassembling.{IsDisEnd, bytes_behind, dis_command, dis_outcome, dis_text, line_of_word, range_at, program_image, text_said, words_in};
 ghost use Rattle.conda_engine.specs.Making.{IsMadeText, IsMakeError, IsSaidError};
 ghost use Rattle.conda_engine.specs.StatusText.{IsTold};
 ghost use Rattle.conda_engine.specs.TextLaws.{HasTextThatComesBackAtDone, IsTextThatComesBack};
@@ -72,7 +72,7 @@ fn bytes_behind(code: &Code, pc: u32) -> &[u8]
 
 // Appends the line of a word.
 fn push_word(text: &mut Vec<u8>, word: u32) -> Result<(), AllocError>
-    ensures { OnOk result (text.new.items ≡ text.old.items ++ line_of word) }
+    ensures { OnOk result (text.new.items ≡ text.old.items ++ line_of_word word) }
 {
     let mut line = ArrayVec::new();
     word_text(word, &mut line);
@@ -84,7 +84,7 @@ fn push_word(text: &mut Vec<u8>, word: u32) -> Result<(), AllocError>
 // Appends the lines of the words of bytes.
 fn push_words(text: &mut Vec<u8>, bytes: &[u8]) -> Result<(), AllocError>
     ensures { OnOk result (text.new.items
-        ≡ text.old.items ++ flat_map line_of (words_in bytes.now)) }
+        ≡ text.old.items ++ flat_map line_of_word (words_in bytes.now)) }
 {
     let mut rest = bytes;
     'words: while rest.len() >= 4 {
@@ -143,7 +143,7 @@ fn read_text<H: Host>(alloc: Global, program: &str, host: &mut H) -> Result<Vec<
     ensures ok { IfOk result (λ text. IsMadeText text_said (H.state host.old) program.now
         image_limit text.items) }
     ensures back { IfOk result (λ text. IsTrue (H.state host.old).tells → IsTextThatComesBack
-        (program_image (bytes_of (H.state host.old) program.now)) text.items) }
+        (program_image (bytes_of_file (H.state host.old) program.now)) text.items) }
     ensures err { IfErr result (IsMakeError text_said (H.state host.old) (H.state host.new)
         role.Program program.now image_limit) }
     ensures end { IfErr result IsDisEnd }
@@ -157,7 +157,7 @@ fn read_text<H: Host>(alloc: Global, program: &str, host: &mut H) -> Result<Vec<
 /// Writes the text of a program.
 pub fn dis<H: Host>(alloc: Global, files: &ProgramFiles, host: &mut H) -> Status
     ensures answers { Answers (dis_command (program_named files.now))
-        (dis_outcome (bytes_of (H.state host.old) files.now.program.now)) (H.state host.old)
+        (dis_outcome (bytes_of_file (H.state host.old) files.now.program.now)) (H.state host.old)
         (H.state host.new) result }
     ensures back { HasTextThatComesBackAtDone (program_named files.now) (H.state host.old)
         (H.state host.new) result }

@@ -1,7 +1,7 @@
 // A run from where its schedule is opened.
 ghost use Rattle.std.specs.Prelude.{◌≡◌, [], is_some};
 ghost use Rattle.chip_laws.specs.Design.{Design};
-ghost use Rattle.command_run.specs.Driving.{bytes_of};
+ghost use Rattle.command_run.specs.Driving.{bytes_of_file};
 ghost use Rattle.command_words.specs.Words.{AreApart};
 ghost use Rattle.machine_run.specs.Tasks.{IsNewTask};
 ghost use Rattle.conda_engine.specs.Answers.{Answers};
@@ -45,11 +45,11 @@ fn drive_task<M: Simulator, H: Host>(files: &FileWords, task: &mut Task<M>, host
     ensures answers { (d : Design) → M.stands d task.old.run.machine []
         → Answers (drive_command (names_in files.now))
         (schedule_outcome (account_of ⟦<M as Machine>⟧ M.report) d
-        (bytes_of (H.state host.old) (names_in files.now).schedule))
+        (bytes_of_file (H.state host.old) (names_in files.now).schedule))
         (H.state host.old) (H.state host.new) result }
     ensures machine { (d : Design) → M.stands d task.old.run.machine []
         → StandsAfter ⟦<M as Machine>⟧ d (H.state host.old)
-        (bytes_of (H.state host.old) (names_in files.now).schedule)
+        (bytes_of_file (H.state host.old) (names_in files.now).schedule)
         result task.new.run.machine }
     ensures late { IsLate result }
 {
@@ -65,15 +65,15 @@ pub fn drive<M: Simulator, H: Host>(p: Prepared<M>, host: &mut H) -> (Status, M)
     // What it answers and leaves, by what the schedule leads to.
     ensures answers { Answers (drive_command p.files)
         (schedule_outcome (account_of ⟦<M as Machine>⟧ M.report) (design_in p)
-        (bytes_of (H.state host.old) p.files.schedule))
+        (bytes_of_file (H.state host.old) p.files.schedule))
         (H.state host.old) (H.state host.new) result.0 }
     ensures late { IsLate result.0 }
 
     // The machine stands for the events that ran, at Done for all of the schedule.
     ensures machine { StandsAfter ⟦<M as Machine>⟧ (design_in p) (H.state host.old)
-        (bytes_of (H.state host.old) p.files.schedule) result.0 result.1 }
+        (bytes_of_file (H.state host.old) p.files.schedule) result.0 result.1 }
     ensures lawful { HoldsOfRun M.law (design_in p) (H.state host.old)
-        (bytes_of (H.state host.old) p.files.schedule) result.0 }
+        (bytes_of_file (H.state host.old) p.files.schedule) result.0 }
 {
     let (files, mut task) = p.into_parts();
     let status = drive_task(&files, &mut task, host);

@@ -1,8 +1,8 @@
 // Copies of the names of files.
 ghost use Rattle.std.specs.Prelude.{◌≡◌, IfOk, option_map, string_bytes};
 ghost use Rattle.conda_engine.specs.Files.{names_in, run_names_of};
-ghost use Rattle.command_run.specs.Names.{named};
-ghost use Rattle.command_words.specs.Words.{named as words_named};
+ghost use Rattle.command_run.specs.Names.{run_names};
+ghost use Rattle.command_words.specs.Words.{named};
 
 use command_run::RunNames;
 use command_words::RunFiles;
@@ -32,7 +32,7 @@ fn copy_of(alloc: Global, name: Option<&str>) -> Result<Option<String>, AllocErr
 
 /// Copies of names.
 pub fn copy_names(alloc: Global, names: &RunFiles) -> Result<FileWords, AllocError>
-    ensures { IfOk result (λ words. names_in words ≡ words_named names.now) }
+    ensures { IfOk result (λ words. names_in words ≡ named names.now) }
 {
     Ok(FileWords {
         config: String::from_str(alloc, names.config)?,
@@ -56,7 +56,7 @@ fn name_of(name: &Option<String>) -> Option<&str>
 
 /// The names of the files that a run uses from where its schedule is opened.
 pub fn run_names(files: &FileWords) -> RunNames<'_>
-    ensures { named result ≡ run_names_of (names_in files.now) }
+    ensures { run_names result ≡ run_names_of (names_in files.now) }
 {
     RunNames {
         schedule: files.schedule.as_str(),

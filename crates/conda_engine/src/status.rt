@@ -29,11 +29,11 @@ pub enum Status {
 }
 
 impl Status {
-    ghost use Rattle.conda_engine.specs.StatusText.{code_of};
+    ghost use Rattle.conda_engine.specs.StatusText.{status_code};
 
     /// The exit status of the program.
     pub fn code(&self) -> u8
-        ensures { result ≡ code_of self.now }
+        ensures { result ≡ status_code self.now }
     {
         match self {
             Status::Done => 0,

@@ -2,7 +2,7 @@
 ghost use Rattle.std.specs.Prelude.{◌≡◌, [], ◌++◌, ◌≤◌, ◌+◌, length, codes};
 ghost use Rattle.std.specs.Fmt.{decimal};
 ghost use Rattle.arrayvec.specs.ArrayVec.{array_vec_len};
-ghost use Rattle.conda_engine.specs.StatusText.{name_of_role, config_fault_number, config_fault_held, held, image_fault_number, image_fault_held, option_held, text_of_status, IsTold};
+ghost use Rattle.conda_engine.specs.StatusText.{name_of_role, config_fault_number, config_fault_held, held_number, image_fault_number, image_fault_held, option_held, text_of_status, IsTold};
 
 use crate::Status;
 use arrayvec::ArrayVec;
@@ -54,7 +54,7 @@ fn push_pair(out: &mut Line, first: &[u8], one: u64, second: &[u8], two: u64)
 // Appends a space and a number that a fault holds.
 fn push_held(out: &mut Line, number: u64)
     requires { array_vec_len out.old + 21 ≤ 128 }
-    ensures text { out.new.items ≡ out.old.items ++ held number }
+    ensures text { out.new.items ≡ out.old.items ++ held_number number }
     ensures len { array_vec_len out.new ≤ array_vec_len out.old + 21 }
 {
     push_bytes(out, b" ");

@@ -7,10 +7,10 @@ use Rattle.conda_host.specs.declared.outside.Role.{Role}
 use Rattle.conda_host.specs.declared.outside.HostFailed.{HostFailed}
 use Rattle.conda_host.specs.declared.memory.MemoryHost.{MemoryHost}
 use Rattle.conda_host.specs.State.{HostState}
-use Rattle.conda_host.specs.Memory.{Input, File, input_at, is_among, created_at, files_seen, own_file, room_of, slot_of, state_of, stands_in}
+use Rattle.conda_host.specs.Memory.{Input, File, input_at, is_among, created_at, files_seen, own_file, room_of, role_slot, host_state, stands_in}
 
 abbrev pub memory_state : MemoryHost → HostState
-memory_state m = state_of m.inputs.items (files_seen m.outputs.items) m.slots
+memory_state m = host_state m.inputs.items (files_seen m.outputs.items) m.slots
 
 -- it tells, its files are the inputs, no role is opened or created, and no call failed
 pub record IsStart (state : HostState) (inputs : List Input) : Type 0 where
@@ -29,13 +29,13 @@ pub record HostRules : Type 0 where
   pub calls : ℕ
 
 -- the outputs' names, each with its room
-abbrev pub places_of : List File → List (List ℕ × ℕ)
-places_of files = map (λ f. (f.name, f.room)) files
+abbrev pub rooms_of : List File → List (List ℕ × ℕ)
+rooms_of files = map (λ f. (f.name, f.room)) files
 
 abbrev pub rules_of : MemoryHost → HostRules
 rules_of m = record {
   inputs = m.inputs.items;
-  places = places_of (files_seen m.outputs.items);
+  places = rooms_of (files_seen m.outputs.items);
   most = m.most;
   failing = m.failing.items;
   calls = m.calls;
@@ -62,7 +62,7 @@ fails_next m = stands_in m.failing.items (min (m.calls + 1) (2 ^ 64 - 1))
 -- how many bytes more the role's file holds
 abbrev pub room_left : MemoryHost → Role → ℕ
 room_left m r =
-    option_map_or room_of (own_file (files_seen m.outputs.items) (slot_of m.slots r).output r) 0
+    option_map_or room_of (own_file (files_seen m.outputs.items) (role_slot m.slots r).output r) 0
 
 -- the role's file takes some of so many bytes, or there are none
 abbrev pub has_room_for : MemoryHost → Role → ℕ → Bool

@@ -13,7 +13,7 @@ use Rattle.line_memory.specs.Memory.{IsMemory}
 use Rattle.line_memory.specs.Backing.{HasSameNumbers, BackingView, IsBacking, IsInRange, shape_of, view_of, merged}
 use Rattle.line_memory.specs.Notes.{all_noted, commit_notes}
 use Rattle.nda_cache.specs.Tried.{Tried, IsTried, known_of}
-use Rattle.offload_calls.specs.Stores.{Inside, overlay, has, stored_addresses}
+use Rattle.offload_calls.specs.Stores.{Inside, overlay, is_listed, stored_addresses}
 use Rattle.offload_calls.specs.State.{Setup, State, updated}
 use Rattle.offload_calls.proofs.StoreLemmas.{length-overlay, latest_stored}
 use Rattle.try_runs.specs.Fills.{Fills, try_run}
@@ -84,14 +84,14 @@ address-inside b a is range =
     (omega arith, omega arith)
 
 stores-inside : (b : BackingView) (stores : List (ℕ × ℕ)) → IsMemory b.line_bytes b.base (length b.view)
-    → ((a : ℕ) → has (stored_addresses stores) a ≡ true → IsInRange b (line_at b.line_bytes a)) → All (Inside b.base (length b.view)) stores
+    → ((a : ℕ) → is_listed (stored_addresses stores) a ≡ true → IsInRange b (line_at b.line_bytes a)) → All (Inside b.base (length b.view)) stores
 stores-inside b [] is range = All-nil (Inside b.base (length b.view))
 stores-inside b (store ∷ stores) is range =
     All-cons (Inside b.base (length b.view)) store stores
-    (address-inside b store.0 is (range store.0 (or_left (eqb store.0 store.0) (has (stored_addresses stores) store.0) (eq-eqb store.0 store.0 refl))))
-    (stores-inside b stores is (λ a h. range a (or_right (eqb store.0 a) (has (stored_addresses stores) a) h)))
+    (address-inside b store.0 is (range store.0 (or_left (eqb store.0 store.0) (is_listed (stored_addresses stores) store.0) (eq-eqb store.0 store.0 refl))))
+    (stores-inside b stores is (λ a h. range a (or_right (eqb store.0 a) (is_listed (stored_addresses stores) a) h)))
 
-stored-named : (n : ℕ) (stores : List (ℕ × ℕ)) (a : ℕ) → has (stored_addresses stores) a ≡ true → names (stored_lines n stores) (line_at n a) ≡ true
+stored-named : (n : ℕ) (stores : List (ℕ × ℕ)) (a : ℕ) → is_listed (stored_addresses stores) a ≡ true → names (stored_lines n stores) (line_at n a) ≡ true
 stored-named n stores a h = names-with_all_new [] (map (line_at n) (stored_addresses stores)) (line_at n a) ∙ names-map n (stored_addresses stores) a h
 
 -- ---- the merges of what the cache holds

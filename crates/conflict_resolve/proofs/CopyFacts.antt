@@ -10,7 +10,7 @@ use Rattle.conda_base.specs.declared.Mesi.TheVariants.{M}
 use Rattle.conda_base.specs.Lines.{IsLineOf}
 use Rattle.conda_base.specs.LineLists.{names, same_line}
 use Rattle.line_memory.specs.Memory.{IsMemory}
-use Rattle.line_memory.specs.Tags.{Tag, Tags, Shape, set_of, held_state, is_in_m, dirty_lines}
+use Rattle.line_memory.specs.Tags.{Tag, Tags, Shape, set_number, held_state, is_in_m, dirty_lines}
 use Rattle.line_memory.specs.Access.{after_commit}
 use Rattle.line_memory.specs.Backing.{BackingView, IsBacking, IsInRange, shape_of, dirty_in, view_of, copy_of, committed_line, merged}
 use Rattle.line_memory.specs.Copies.{has_same_owner, copy_after}
@@ -137,7 +137,7 @@ copies_are b new entries lines l is named tags old backing rooms ranges range = 
         let on : names (dirty_in new) l ≡ true = ap (λ s. names (dirty_lines s new.tags) l) shape ∙ dirty in
         let owner = state_of_dirty new l backing (contains_named (dirty_in new) l on) in
         let here : held_state (shape_of b) new.tags owner.0 l ≡ Some M = ap (λ s. held_state s new.tags owner.0 l) (sym shape) ∙ owner.2 in
-        let left = left_in_m lines (b.tags owner.0 (set_of (shape_of b) l)) l (ap (λ (ts : Tags). held_state (shape_of b) ts owner.0 l) (sym tags) ∙ here) in
+        let left = left_in_m lines (b.tags owner.0 (set_number (shape_of b) l)) l (ap (λ (ts : Tags). held_state (shape_of b) ts owner.0 l) (sym tags) ∙ here) in
         let below : owner.0 < b.holders = subst (λ (s : Shape). owner.0 < s.holders) shape owner.1 in
         let same : has_same_owner (shape_of b) b.tags new.tags l ≡ true =
         some_found b.holders owner.0 (λ k. is_in_m (held_state (shape_of b) b.tags k l) && is_in_m (held_state (shape_of b) new.tags k l)) below

@@ -19,7 +19,7 @@ use Rattle.line_memory.specs.Tags.{Tag, Tags, Shape, held_state, without_line, e
 use Rattle.line_memory.specs.Access.{after_commit}
 use Rattle.line_memory.specs.Notes.{note_of, leave_notes, all_notes, merge_notes, commit_notes}
 use Rattle.line_memory.proofs.MemoryLemmas.{length-with_line, bytes_of_line-in}
-use Rattle.offload_calls.specs.Stores.{Inside, overlay, byte_at, latest, has, stored_addresses}
+use Rattle.offload_calls.specs.Stores.{Inside, overlay, byte_at, latest, is_listed, stored_addresses}
 use Rattle.offload_calls.proofs.StoreLemmas.{length-overlay, byte_at-overlay, latest-elsewhere, latest_stored}
 use Rattle.conda_base.specs.LineLists.{line_at, lines_of, same_line, names}
 use Rattle.conda_base.proofs.LineListLemmas.{line_eq, same_line-refl, same_line-eq, names-with_all_new}
@@ -36,7 +36,7 @@ lines_in entries = map (λ (e : Stored). e.0) entries
 pub record IsStored (line_bytes : ℕ) (stores : List (ℕ × ℕ)) (e : Stored) : Type 0 where
   pub room : length e.1.bytes ≡ 128
   pub marks : (k : ℕ) → k < line_bytes
-      → is_marked e.1.mask k ≡ has (stored_addresses stores) (e.0.0 * line_bytes + k)
+      → is_marked e.1.mask k ≡ is_listed (stored_addresses stores) (e.0.0 * line_bytes + k)
   pub bytes : (k : ℕ) → k < line_bytes → is_marked e.1.mask k ≡ true
       → slice_index e.1.bytes k ≡ latest stores (e.0.0 * line_bytes + k) 0
 
@@ -148,10 +148,10 @@ module _ (b : BackingView) (e : Stored) (is : IsMemory b.line_bytes b.base (leng
 -- the marks and bytes at an address of the line
 stored-at : (b : BackingView) (stores : List (ℕ × ℕ)) (e : Stored) (a : ℕ) → IsLineSize b.line_bytes → IsStored b.line_bytes stores e
     → same_line e.0 (line_at b.line_bytes a) ≡ true
-    → (is_marked e.1.mask (line_offset a b.line_bytes) ≡ has (stored_addresses stores) a)
+    → (is_marked e.1.mask (line_offset a b.line_bytes) ≡ is_listed (stored_addresses stores) a)
     × (is_marked e.1.mask (line_offset a b.line_bytes) ≡ true → get_or e.1.bytes (line_offset a b.line_bytes) 0 ≡ latest stores a 0)
 stored-at b stores e a size is h = (
-  is.marks k small ∙ ap (has (stored_addresses stores)) at,
+  is.marks k small ∙ ap (is_listed (stored_addresses stores)) at,
   λ m. is.bytes k small m ∙ ap (λ x. latest stores x 0) at,
 )
   where
@@ -195,7 +195,7 @@ all-long b (e ∷ entries) is rooms ranges =
 all-byte : (b : BackingView) (stores : List (ℕ × ℕ)) (entries : List Stored) (p : ℕ) → IsMemory b.line_bytes b.base (length b.view)
     → All (IsStored b.line_bytes stores) entries → All (λ (e : Stored). IsInRange b e.0) entries → p < length b.view
     → get_or (all_merged b entries).view p 0
-    ≡ cond (names (lines_in entries) (line_at b.line_bytes (b.base + p)) && has (stored_addresses stores) (b.base + p)) (latest stores (b.base + p) 0) (get_or b.view p 0)
+    ≡ cond (names (lines_in entries) (line_at b.line_bytes (b.base + p)) && is_listed (stored_addresses stores) (b.base + p)) (latest stores (b.base + p) 0) (get_or b.view p 0)
 all-byte b stores [] p is stored ranges below = refl
 all-byte b stores (e ∷ entries) p is stored ranges below =
     let n : ℕ = b.line_bytes in
@@ -206,16 +206,16 @@ all-byte b stores (e ∷ entries) p is stored ranges below =
     all-byte (merged b e.0 e.1.bytes e.1.mask) stores entries p (subst (IsMemory n b.base) (sym long) is) (All-tail (IsStored n stores) e entries stored)
     (subst (λ m. All (λ (e : Stored). IsLineOf b.base m n e.0.0) entries) (sym long) (All-tail (λ (e : Stored). IsInRange b e.0) e entries ranges))
     (subst (λ m. p < m) (sym long) below)
-    ∙ ap (λ v. cond (names (lines_in entries) (line_at n a) && has (stored_addresses stores) a) (latest stores a 0) v) (merged-byte b e is range here.room p below)
-    ∙ choose (same_line e.0 (line_at n a)) (is_marked e.1.mask (line_offset a n)) (names (lines_in entries) (line_at n a)) (has (stored_addresses stores) a)
+    ∙ ap (λ v. cond (names (lines_in entries) (line_at n a) && is_listed (stored_addresses stores) a) (latest stores a 0) v) (merged-byte b e is range here.room p below)
+    ∙ choose (same_line e.0 (line_at n a)) (is_marked e.1.mask (line_offset a n)) (names (lines_in entries) (line_at n a)) (is_listed (stored_addresses stores) a)
     (latest stores a 0) (get_or e.1.bytes (line_offset a n) 0) (get_or b.view p 0)
     (λ s. (stored-at b stores e a is.size here s).0) (λ s m. (stored-at b stores e a is.size here s).1 m)
 
-pub names-map : (n : ℕ) (xs : List ℕ) (a : ℕ) → has xs a ≡ true → names (map (line_at n) xs) (line_at n a) ≡ true
+pub names-map : (n : ℕ) (xs : List ℕ) (a : ℕ) → is_listed xs a ≡ true → names (map (line_at n) xs) (line_at n a) ≡ true
 names-map n [] a h = absurd (false≢true h)
-names-map n (x ∷ xs) a h = go (or_cases (eqb x a) (has xs a) h) (names-map n xs a)
+names-map n (x ∷ xs) a h = go (or_cases (eqb x a) (is_listed xs a) h) (names-map n xs a)
   where
-    go : (eqb x a ≡ true) ⊎ (has xs a ≡ true) → (has xs a ≡ true → names (map (line_at n) xs) (line_at n a) ≡ true)
+    go : (eqb x a ≡ true) ⊎ (is_listed xs a ≡ true) → (is_listed xs a ≡ true → names (map (line_at n) xs) (line_at n a) ≡ true)
         → (same_line (line_at n x) (line_at n a) || names (map (line_at n) xs) (line_at n a)) ≡ true
     go (inl e) ih = or_left _ _ (eq-eqb (line_at n x).0 (line_at n a).0 (ap (λ y. (line_at n y).0) (eqb-true x a e)))
     go (inr r) ih = or_right _ _ (ih r)
@@ -239,7 +239,7 @@ merges-view b stores entries are =
 
     byte : (p : ℕ) → p < length b.view → get_or (all_merged b entries).view p 0 ≡ get_or (overlay b.base b.view stores) p 0
     byte p below =
-        all-byte b stores entries p are.memory are.stored are.in_range below ∙ go (has (stored_addresses stores) a) refl
+        all-byte b stores entries p are.memory are.stored are.in_range below ∙ go (is_listed (stored_addresses stores) a) refl
         ∙ sym (byte_at-overlay b.base b.view stores a are.inside (omega arith)) ∙ ap (λ i. get_or (overlay b.base b.view stores) i 0) (omega arith)
       where
         a : ℕ
@@ -248,7 +248,7 @@ merges-view b stores entries are =
         here : byte_at b.base b.view a ≡ get_or b.view p 0
         here = ap (λ i. get_or b.view i 0) (omega arith)
 
-        go : (t : Bool) → has (stored_addresses stores) a ≡ t
+        go : (t : Bool) → is_listed (stored_addresses stores) a ≡ t
             → cond (names (lines_in entries) (line_at n a) && t) (latest stores a 0) (get_or b.view p 0) ≡ latest stores a (byte_at b.base b.view a)
         go true h =
             let named : names (lines_in entries) (line_at n a) ≡ true =

@@ -6,27 +6,27 @@ use Rattle.std.proofs.lemmas.List.Elements.{All-nil, All-cons, All-head, All-tai
 use Rattle.conda_base.specs.declared.Line.{Line}
 use Rattle.conda_base.proofs.LineLemmas.{line_in_memory}
 use Rattle.line_memory.specs.Backing.{IsInRange}
-use Rattle.offload_calls.specs.Stores.{Inside, has, stored_addresses}
+use Rattle.offload_calls.specs.Stores.{Inside, is_listed, stored_addresses}
 use Rattle.conda_base.specs.LineLists.{line_at, names, with_new, with_all_new}
 use Rattle.try_runs.specs.Tries.{Try, stored_lines}
 use Rattle.try_runs.specs.Fills.{portion_run}
 use Rattle.try_runs.proofs.TryFacts.{try_run-inside}
 use Rattle.conflict_resolve.specs.InRange.{StoresInRange}
 
-all-new : (P : Line → Type 0) (n : ℕ) (lines : List Line) (addrs : List ℕ) → ((a : ℕ) → has addrs a ≡ true → P (line_at n a)) → All P lines
+all-new : (P : Line → Type 0) (n : ℕ) (lines : List Line) (addrs : List ℕ) → ((a : ℕ) → is_listed addrs a ≡ true → P (line_at n a)) → All P lines
     → All P (with_all_new lines (map (line_at n) addrs))
 all-new P n lines [] here all = all
 all-new P n lines (a ∷ addrs) here all =
-    all-new P n (with_new lines (line_at n a)) addrs (λ x h. here x (or_right (eqb a x) (has addrs x) h))
+    all-new P n (with_new lines (line_at n a)) addrs (λ x h. here x (or_right (eqb a x) (is_listed addrs x) h))
     (cond_both (names lines (line_at n a)) lines (lines ++ line_at n a ∷ []) (All P) (λ _. all)
-    (λ _. All-append P lines (line_at n a ∷ []) all (All-cons P (line_at n a) [] (here a (or_left (eqb a a) (has addrs a) (eq-eqb a a refl))) (All-nil P))))
+    (λ _. All-append P lines (line_at n a ∷ []) all (All-cons P (line_at n a) [] (here a (or_left (eqb a a) (is_listed addrs a) (eq-eqb a a refl))) (All-nil P))))
 
-address-of : (base room : ℕ) (stores : List (ℕ × ℕ)) (a : ℕ) → All (Inside base room) stores → has (stored_addresses stores) a ≡ true → (base ≤ a) × (a < base + room)
+address-of : (base room : ℕ) (stores : List (ℕ × ℕ)) (a : ℕ) → All (Inside base room) stores → is_listed (stored_addresses stores) a ≡ true → (base ≤ a) × (a < base + room)
 address-of base room [] a all h = absurd (false≢true h)
 address-of base room (store ∷ stores) a all h =
-    go (or_cases (eqb store.0 a) (has (stored_addresses stores) a) h) (λ r. address-of base room stores a (All-tail (Inside base room) store stores all) r)
+    go (or_cases (eqb store.0 a) (is_listed (stored_addresses stores) a) h) (λ r. address-of base room stores a (All-tail (Inside base room) store stores all) r)
   where
-    go : (eqb store.0 a ≡ true) ⊎ (has (stored_addresses stores) a ≡ true) → (has (stored_addresses stores) a ≡ true → (base ≤ a) × (a < base + room))
+    go : (eqb store.0 a ≡ true) ⊎ (is_listed (stored_addresses stores) a ≡ true) → (is_listed (stored_addresses stores) a ≡ true → (base ≤ a) × (a < base + room))
         → (base ≤ a) × (a < base + room)
     go (inl e) later = subst (λ x. (base ≤ x) × (x < base + room)) (eqb-true store.0 a e) (All-head (Inside base room) store stores all)
     go (inr r) later = later r

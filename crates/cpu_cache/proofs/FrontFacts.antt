@@ -5,7 +5,7 @@ use Rattle.std.proofs.lemmas.Bool.{cases_Bool, eq-eqb}
 use Rattle.std.proofs.lemmas.List.{length-set}
 use Rattle.conda_base.specs.declared.Line.{Line}
 use Rattle.set_assoc.specs.Entries.{lookup, without, replaced, touched}
-use Rattle.set_assoc.specs.Places.{placed, place_of}
+use Rattle.set_assoc.specs.Places.{placed, place_of_line}
 use Rattle.set_assoc.specs.declared.placed.Placed.{Placed}
 use Rattle.set_assoc.specs.SetLists.{SetLists, set_of, list_of, with_list}
 use Rattle.set_assoc.proofs.SetLemmas.{list_of-with_list, lookup-replaced_same}
@@ -35,13 +35,13 @@ module _ {T : Type 0} where
   place_found (Some v) p at = (v, refl)
 
   -- the place of a line that has a new value
-  pub replaced_place : (sets : SetLists (Placed T)) (l : Line) (value : T) (p : ℕ) → 0 < length sets.lists → place_of l (list_of sets l) ≡ Some p → place_of l (list_of (with_list sets l (replaced l (placed value p) (list_of sets l))) l) ≡ Some p
+  pub replaced_place : (sets : SetLists (Placed T)) (l : Line) (value : T) (p : ℕ) → 0 < length sets.lists → place_of_line l (list_of sets l) ≡ Some p → place_of_line l (list_of (with_list sets l (replaced l (placed value p) (list_of sets l))) l) ≡ Some p
   replaced_place sets l value p some at =
       let was = place_found (lookup l (list_of sets l)) p at in
-      ap (λ es. place_of l es) (list_of-with_list sets l (replaced l (placed value p) (list_of sets l)) some) ∙
+      ap (λ es. place_of_line l es) (list_of-with_list sets l (replaced l (placed value p) (list_of sets l)) some) ∙
       ap (λ o. option_map (λ kept. kept.place) o) (lookup-replaced_same l (placed value p) was.0 (list_of sets l) was.1)
 
-  pub replaced_front : (sets : SetLists (Placed T)) (l : Line) (value : T) (p : ℕ) → 0 < length sets.lists → place_of l (list_of sets l) ≡ Some p → with_list (with_list sets l (replaced l (placed value p) (list_of sets l))) l (touched l (list_of (with_list sets l (replaced l (placed value p) (list_of sets l))) l)) ≡ with_list sets l ((l, placed value p) ∷ without l (list_of sets l))
+  pub replaced_front : (sets : SetLists (Placed T)) (l : Line) (value : T) (p : ℕ) → 0 < length sets.lists → place_of_line l (list_of sets l) ≡ Some p → with_list (with_list sets l (replaced l (placed value p) (list_of sets l))) l (touched l (list_of (with_list sets l (replaced l (placed value p) (list_of sets l))) l)) ≡ with_list sets l ((l, placed value p) ∷ without l (list_of sets l))
   replaced_front sets l value p some at =
       let was = place_found (lookup l (list_of sets l)) p at in
       front_again sets l was.0 (placed value p) some was.1

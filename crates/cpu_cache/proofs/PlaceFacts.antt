@@ -7,7 +7,7 @@ use Rattle.std.proofs.lemmas.List.{get_or-map as get_or-map_within}
 use Rattle.conda_base.specs.declared.Line.{Line}
 use Rattle.conda_base.specs.declared.Mesi.{Mesi}
 use Rattle.set_assoc.specs.Entries.{lookup, AreEntries}
-use Rattle.set_assoc.specs.Places.{ArePlacedSets, place_of}
+use Rattle.set_assoc.specs.Places.{ArePlacedSets, place_of_line}
 use Rattle.set_assoc.specs.declared.placed.Placed.{Placed}
 use Rattle.set_assoc.specs.Seen.{seen_list, seen_through}
 use Rattle.set_assoc.specs.SetLists.{SetLists, set_of, list_of, with_list, find, IsSets}
@@ -27,9 +27,9 @@ slots_apart lines a b x y are first second same =
     let little = place_below lines b y are second in
     let sets : set_of lines b ≡ set_of lines a = omega arith in
     let places : y.place ≡ x.place = omega arith in
-    let mine : place_of a (list_of lines a) ≡ Some x.place = ap (λ o. option_map (λ k. k.place) o) first in
-    let his : place_of b (list_of lines a) ≡ Some x.place =
-    ap (λ k. place_of b (get_or lines.lists k [])) (sym sets) ∙ ap (λ o. option_map (λ k. k.place) o) second ∙ ap (λ p. Some p) places in
+    let mine : place_of_line a (list_of lines a) ≡ Some x.place = ap (λ o. option_map (λ k. k.place) o) first in
+    let his : place_of_line b (list_of lines a) ≡ Some x.place =
+    ap (λ k. place_of_line b (get_or lines.lists k [])) (sym sets) ∙ ap (λ o. option_map (λ k. k.place) o) second ∙ ap (λ p. Some p) places in
     (are.places (set_of lines a)).apart a b x.place mine his
 
 module _ {A B : Type 0} where

@@ -20,8 +20,8 @@ pub record Contents : Type 0 where
   pub lines : SetLists Content
 
 -- no line is held
-abbrev pub empty : ℕ → ℕ → ℕ → Contents
-empty line_bytes sets ways = record { line_bytes = line_bytes; lines = record { ways = ways; lists = replicate sets [] } }
+abbrev pub no_contents : ℕ → ℕ → ℕ → Contents
+no_contents line_bytes sets ways = record { line_bytes = line_bytes; lines = record { ways = ways; lists = replicate sets [] } }
 
 -- the content of a line, where it is held
 abbrev pub content_of : Contents → Line → Option Content

@@ -26,7 +26,7 @@ ghost use Rattle.conda_base.specs.Lines.{IsLineSize, IsAccessSize, line_offset};
 ghost use Rattle.conda_base.specs.LineLists.{line_at};
 ghost use Rattle.conda_base.specs.declared.Mesi.TheVariants.{M, E, S};
 ghost use Rattle.set_assoc.specs.Entries.{touched, without};
-ghost use Rattle.cpu_cache.specs.Contents.{Contents, IsCache, IsHeld, bytes_in, bytes_of, content_of, empty, filled, in_front, leaving, loaded, restated, set_list, state_of, stored_if_owned, tags_of, with_set, written_back};
+ghost use Rattle.cpu_cache.specs.Contents.{Contents, IsCache, IsHeld, bytes_in, bytes_of, content_of, no_contents, filled, in_front, leaving, loaded, restated, set_list, state_of, stored_if_owned, tags_of, with_set, written_back};
 
 use crate::lines::{PLACES, front_in, held_at, slot_at};
 use conda_base::{Line, Mesi, line_of, offset_of, read_value, write_value};
@@ -64,7 +64,7 @@ impl CpuCache {
         requires few_sets { sets ≤ 256 }
         requires some_ways { 0 < ways }
         requires few_ways { ways ≤ 8 }
-        ensures empty { IfOk result (λ c. c ≡ empty line_bytes sets ways) }
+        ensures empty { IfOk result (λ c. c ≡ no_contents line_bytes sets ways) }
         ensures kept { IfOk result (λ c. IsCache c) }
     {
         let lines = PlacedSets::new(alloc, sets, ways)?;

@@ -1,7 +1,7 @@
 // The lines that a cache holds, and the slots of their bytes.
 ghost use Rattle.std.specs.Prelude.{◌≡◌, ◌<◌, ◌≤◌, ◌*◌, ◌∷◌, IsSome, Some, length};
 ghost use Rattle.set_assoc.specs.Entries.{without};
-ghost use Rattle.set_assoc.specs.Places.{ArePlacedSets, place_of, placed};
+ghost use Rattle.set_assoc.specs.Places.{ArePlacedSets, place_of_line, placed};
 ghost use Rattle.set_assoc.specs.SetLists.{list_of, with_list, find};
 ghost use Rattle.cpu_cache.specs.Slots.{slot_of};
 
@@ -32,7 +32,7 @@ pub fn slot_at(lines: &PlacedSets<Mesi>, l: Line, place: usize) -> usize
 
 /// Brings the line at a place to the front, in a state.
 pub fn front_in(lines: &mut PlacedSets<Mesi>, l: Line, place: usize, state: Mesi)
-    requires { place_of l (list_of lines.old l) ≡ Some place }
+    requires { place_of_line l (list_of lines.old l) ≡ Some place }
     ensures front { let rest = without l (list_of lines.old l) in
         lines.new ≡ with_list lines.old l ((l, placed state place) ∷ rest) }
     ensures kept { ArePlacedSets lines.new }

@@ -6,35 +6,35 @@ use Rattle.std.proofs.lemmas.Bool.Decides.{nat_tests}
 use Rattle.std.proofs.lemmas.List.{take_more, take_all, ext_get_or}
 use Rattle.std.proofs.lemmas.List.FromFn.{length-map-range_with_len, get_or-map-range_with_len}
 use Rattle.elf_loader.specs.declared.segment.Segment.{Segment}
-use Rattle.elf_loader.specs.Loaded.{holds, byte_of, byte_at, is_copied}
+use Rattle.elf_loader.specs.Loaded.{holds, segment_byte, loaded_byte, is_copied}
 use Rattle.elf_loader.specs.Segments.{is_live, is_bad, shares_address, overlaps}
 
 -- memory from `base` on has the bytes of these segments, and zeros elsewhere
 pub record IsFilledBy (file : List ℕ) (segments : List Segment) (base size : ℕ) (memory : List ℕ) : Type 0 where
   pub long : length memory ≡ size
-  pub bytes : (k : ℕ) → k < size → get_or memory k 0 ≡ byte_at file segments (base + k)
+  pub bytes : (k : ℕ) → k < size → get_or memory k 0 ≡ loaded_byte file segments (base + k)
 
 -- one segment more
 byte_at-push : (file : List ℕ) (segments : List Segment) (s : Segment) (addr : ℕ)
-    → byte_at file (segments ++ s ∷ []) addr
-    ≡ cond (list_any (holds addr) segments) (byte_at file segments addr) (cond (holds addr s) (byte_of file s addr) 0)
+    → loaded_byte file (segments ++ s ∷ []) addr
+    ≡ cond (list_any (holds addr) segments) (loaded_byte file segments addr) (cond (holds addr s) (segment_byte file s addr) 0)
 byte_at-push file [] s addr = refl
 byte_at-push file (t ∷ segments) s addr = go (holds addr t) (byte_at-push file segments s addr)
   where
-    go : (b : Bool) → byte_at file (segments ++ s ∷ []) addr
-        ≡ cond (list_any (holds addr) segments) (byte_at file segments addr) (cond (holds addr s) (byte_of file s addr) 0)
-        → cond b (byte_of file t addr) (byte_at file (segments ++ s ∷ []) addr)
-        ≡ cond (b || list_any (holds addr) segments) (cond b (byte_of file t addr) (byte_at file segments addr)) (cond (holds addr s) (byte_of file s addr) 0)
+    go : (b : Bool) → loaded_byte file (segments ++ s ∷ []) addr
+        ≡ cond (list_any (holds addr) segments) (loaded_byte file segments addr) (cond (holds addr s) (segment_byte file s addr) 0)
+        → cond b (segment_byte file t addr) (loaded_byte file (segments ++ s ∷ []) addr)
+        ≡ cond (b || list_any (holds addr) segments) (cond b (segment_byte file t addr) (loaded_byte file segments addr)) (cond (holds addr s) (segment_byte file s addr) 0)
     go true rest = refl
     go false rest = rest
 
 -- an address in no segment has the byte 0
-pub byte_at_none : (file : List ℕ) (segments : List Segment) (addr : ℕ) → list_any (holds addr) segments ≡ false → byte_at file segments addr ≡ 0
+pub byte_at_none : (file : List ℕ) (segments : List Segment) (addr : ℕ) → list_any (holds addr) segments ≡ false → loaded_byte file segments addr ≡ 0
 byte_at_none file [] addr h = refl
 byte_at_none file (t ∷ segments) addr h = go (holds addr t) h (byte_at_none file segments addr)
   where
-    go : (b : Bool) → (b || list_any (holds addr) segments) ≡ false → (list_any (holds addr) segments ≡ false → byte_at file segments addr ≡ 0)
-        → cond b (byte_of file t addr) (byte_at file segments addr) ≡ 0
+    go : (b : Bool) → (b || list_any (holds addr) segments) ≡ false → (list_any (holds addr) segments ≡ false → loaded_byte file segments addr ≡ 0)
+        → cond b (segment_byte file t addr) (loaded_byte file segments addr) ≡ 0
     go true h rest = cc
     go false h rest = rest h
 
@@ -82,7 +82,7 @@ same_test : (addr : ℕ) (s : Segment) → holds addr s ≡ true → ltb (addr -
 same_test addr s here = grind (arith, nat_tests)
 
 byte_of_is : (file : List ℕ) (addr : ℕ) (s : Segment) → holds addr s ≡ true
-    → byte_of file s addr ≡ cond (is_copied addr s) (slice_index file (s.p_offset + (addr - s.p_vaddr))) 0
+    → segment_byte file s addr ≡ cond (is_copied addr s) (slice_index file (s.p_offset + (addr - s.p_vaddr))) 0
 byte_of_is file addr s here = ap (λ b. cond b (slice_index file (s.p_offset + (addr - s.p_vaddr))) 0) (same_test addr s here)
 
 by_cases : (any hold copied : Bool) (rest own moved old new : ℕ) → (hold ≡ true → any ≡ true → ⊥) → (copied ≡ true → hold ≡ true)
@@ -98,11 +98,11 @@ by_cases false false false rest own moved old new meet within own_is none was is
 
 -- a byte of memory before and after a segment is copied
 byte_more : (file : List ℕ) (segments : List Segment) (s : Segment) (addr old new : ℕ) → is_bad (length file) s ≡ false → overlaps segments s ≡ false
-    → old ≡ byte_at file segments addr
+    → old ≡ loaded_byte file segments addr
     → new ≡ cond (is_copied addr s) (slice_index file (s.p_offset + (addr - s.p_vaddr))) old
-    → new ≡ byte_at file (segments ++ s ∷ []) addr
+    → new ≡ loaded_byte file (segments ++ s ∷ []) addr
 byte_more file segments s addr old new good distinct was is =
-    by_cases (list_any (holds addr) segments) (holds addr s) (is_copied addr s) (byte_at file segments addr) (byte_of file s addr)
+    by_cases (list_any (holds addr) segments) (holds addr s) (is_copied addr s) (loaded_byte file segments addr) (segment_byte file s addr)
     (slice_index file (s.p_offset + (addr - s.p_vaddr))) old new (no_meeting addr s segments distinct) (held (length file) addr s good)
     (byte_of_is file addr s) (byte_at_none file segments addr) was is
     ∙ sym (byte_at-push file segments s addr)
@@ -120,15 +120,15 @@ filled_more file segments i d s base size old new within is good distinct filled
     record {
       long = omega arith;
       bytes = λ k h. byte_more file (take i segments) s (base + k) (get_or old k 0) (get_or new k 0) good distinct (filled.bytes k h) (copied k (omega arith))
-          ∙ ap (λ t. byte_at file t (base + k)) (sym more);
+          ∙ ap (λ t. loaded_byte file t (base + k)) (sym more);
     }
 
 -- memory that was filled by all segments
 pub filled_all : (file : List ℕ) (segments : List Segment) (n base size : ℕ) (memory : List ℕ) → length segments ≤ n
-    → IsFilledBy file (take n segments) base size memory → memory ≡ map (byte_at file segments) (range_with_len base size)
+    → IsFilledBy file (take n segments) base size memory → memory ≡ map (loaded_byte file segments) (range_with_len base size)
 filled_all file segments n base size memory all filled =
     let long = filled.long in
-    let made = length-map-range_with_len (byte_at file segments) base size in
-    ext_get_or 0 memory (map (byte_at file segments) (range_with_len base size)) (omega arith)
-    (λ k h. filled.bytes k (omega arith) ∙ ap (λ t. byte_at file t (base + k)) (take_all n segments all)
-    ∙ sym (get_or-map-range_with_len (byte_at file segments) base size k (base + k) 0 (omega arith) refl))
+    let made = length-map-range_with_len (loaded_byte file segments) base size in
+    ext_get_or 0 memory (map (loaded_byte file segments) (range_with_len base size)) (omega arith)
+    (λ k h. filled.bytes k (omega arith) ∙ ap (λ t. loaded_byte file t (base + k)) (take_all n segments all)
+    ∙ sym (get_or-map-range_with_len (loaded_byte file segments) base size k (base + k) 0 (omega arith) refl))

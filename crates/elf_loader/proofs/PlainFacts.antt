@@ -14,8 +14,8 @@ use Rattle.elf_loader.specs.declared.fault.ImageFault.{ImageFault}
 use Rattle.elf_loader.specs.declared.fault.ImageFault.TheVariants.{TableOutside, BadSegment, SegmentOutside, Overlap, NoSegment, BadEntry}
 use Rattle.elf_loader.specs.Header.{header_of, is_table_outside}
 use Rattle.elf_loader.specs.Segments.{segments_of, is_live, is_bad, is_outside, is_fetchable, overlaps, overlaps_earlier, numbered, holds_word, has_no_live, is_bad_entry}
-use Rattle.elf_loader.specs.Refusal.{first_some, when, refusal}
-use Rattle.elf_loader.specs.Loaded.{holds, byte_of, byte_at, loaded, fetch_ranges, code_of}
+use Rattle.elf_loader.specs.Refusal.{first_some, fault_when, refusal}
+use Rattle.elf_loader.specs.Loaded.{holds, segment_byte, loaded_byte, loaded_bytes, fetch_ranges, code_of}
 use Rattle.elf_loader.specs.Plain.{word, words_bytes, plain, memory_with, IsPlainIn}
 use Rattle.elf_loader.proofs.SegmentFacts.{position_is_none}
 use Rattle.elf_loader.proofs.LoadedFacts.{length-loaded, loaded_at}
@@ -81,8 +81,8 @@ position_of_one p s h = position_is_none p (s ∷ []) s at
 kept_at : (fault : ℕ → ImageFault) (p : Segment → Bool) (s : Segment) → p s ≡ false → option_map fault (position p (s ∷ [])) ≡ None
 kept_at fault p s h = ap (option_map fault) (position_of_one p s h)
 
-kept_when : (b : Bool) (fault : ImageFault) → b ≡ false → when b fault ≡ None
-kept_when b fault h = ap (λ c. when c fault) h
+kept_when : (b : Bool) (fault : ImageFault) → b ≡ false → fault_when b fault ≡ None
+kept_when b fault h = ap (λ c. fault_when c fault) h
 
 alone : (s : Segment) → overlaps [] s ≡ false
 alone s = go (is_live s)
@@ -140,9 +140,9 @@ accepted_by_parts file at size base memory lies is_h is_s =
     ∙ kept_one outside (overlap ∷ []) (kept_at SegmentOutside (is_outside base memory) s (outside_test (length file) at size base memory lies))
     ∙ kept_one overlap [] (ap (option_map Overlap) (alone_overlaps s)) in
     past_segments file h (s ∷ []) base memory (long_enough file (omega arith)) is_h is_s refl refl
-    (kept_one (when (is_table_outside (length file) h) TableOutside) [] (kept_when _ TableOutside (table_test (length file) at (omega arith)))) segments
-    ∙ kept_one (when (has_no_live (s ∷ [])) NoSegment) (when (is_bad_entry at (s ∷ [])) (BadEntry at) ∷ []) (kept_when _ NoSegment (no_live_test at size some))
-    ∙ kept_one (when (is_bad_entry at (s ∷ [])) (BadEntry at)) [] (kept_when _ (BadEntry at) (entry_test at size lies.aligned some))
+    (kept_one (fault_when (is_table_outside (length file) h) TableOutside) [] (kept_when _ TableOutside (table_test (length file) at (omega arith)))) segments
+    ∙ kept_one (fault_when (has_no_live (s ∷ [])) NoSegment) (fault_when (is_bad_entry at (s ∷ [])) (BadEntry at) ∷ []) (kept_when _ NoSegment (no_live_test at size some))
+    ∙ kept_one (fault_when (is_bad_entry at (s ∷ [])) (BadEntry at)) [] (kept_when _ (BadEntry at) (entry_test at size lies.aligned some))
 
 pub refusal-plain : (at base size : ℕ) (words : List ℕ) → IsPlainIn at (length words) base size → base + size ≤ 2 ^ 32 → size < 2 ^ 32
     → refusal (plain at words) base size ≡ None
@@ -169,15 +169,15 @@ fetch_ranges-plain at words h long some =
 
 -- its byte at an address
 byte_in : (file : List ℕ) (at size addr : ℕ) → 4 ≤ size → at ≤ addr → addr < at + size
-    → byte_at file (plain_segment at size ∷ []) addr ≡ slice_index file (84 + (addr - at))
+    → loaded_byte file (plain_segment at size ∷ []) addr ≡ slice_index file (84 + (addr - at))
 byte_in file at size addr some low high =
     let here : holds addr (plain_segment at size) ≡ true = grind (arith, nat_tests) in
     let part : ltb (addr - at) size ≡ true = grind (arith, nat_tests) in
-    ap (λ b. cond b (byte_of file (plain_segment at size) addr) 0) here ∙ ap (λ b. cond b (slice_index file (84 + (addr - at))) 0) part
+    ap (λ b. cond b (segment_byte file (plain_segment at size) addr) 0) here ∙ ap (λ b. cond b (slice_index file (84 + (addr - at))) 0) part
 
 byte_out : (file : List ℕ) (at size addr : ℕ) → 4 ≤ size → holds addr (plain_segment at size) ≡ false
-    → byte_at file (plain_segment at size ∷ []) addr ≡ 0
-byte_out file at size addr some off = ap (λ b. cond b (byte_of file (plain_segment at size) addr) 0) off
+    → loaded_byte file (plain_segment at size ∷ []) addr ≡ 0
+byte_out file at size addr some off = ap (λ b. cond b (segment_byte file (plain_segment at size) addr) 0) off
 
 -- the byte that is meant there
 meant_below : (base size at k : ℕ) (body : List ℕ) → k < at - base → get_or (memory_with base size at body) k 0 ≡ 0
@@ -221,11 +221,11 @@ body_at at j words = sym (get_or-drop 84 (plain at words) j 0)
 
 -- its bytes in memory
 same_byte : (at base size k : ℕ) (words : List ℕ) → IsPlainIn at (length words) base size → k < size
-    → byte_at (plain at words) (plain_segment at (4 * length words) ∷ []) (base + k) ≡ get_or (memory_with base size at (words_bytes words)) k 0
+    → loaded_byte (plain at words) (plain_segment at (4 * length words) ∷ []) (base + k) ≡ get_or (memory_with base size at (words_bytes words)) k 0
 same_byte at base size k words fits within = by_place (leb (at - base) k) refl (leb (at - base + 4 * length words) k) refl
   where
     by_place : (l : Bool) → leb (at - base) k ≡ l → (h : Bool) → leb (at - base + 4 * length words) k ≡ h
-        → byte_at (plain at words) (plain_segment at (4 * length words) ∷ []) (base + k) ≡ get_or (memory_with base size at (words_bytes words)) k 0
+        → loaded_byte (plain at words) (plain_segment at (4 * length words) ∷ []) (base + k) ≡ get_or (memory_with base size at (words_bytes words)) k 0
     by_place false is h past =
         let below : k < at - base = grind (arith, nat_tests) in
         let some = fits.some in
@@ -250,7 +250,7 @@ same_byte at base size k words fits within = by_place (leb (at - base) k) refl (
         ∙ sym (meant_in base size at k (words_bytes words) low (omega arith))
 
 pub loaded-plain : (at base size : ℕ) (words : List ℕ) → IsPlainIn at (length words) base size → base + size ≤ 2 ^ 32 → size < 2 ^ 32
-    → loaded (plain at words) base size ≡ memory_with base size at (words_bytes words)
+    → loaded_bytes (plain at words) base size ≡ memory_with base size at (words_bytes words)
 loaded-plain at base size words fits room small =
     let some = fits.some in
     let from = fits.from in
@@ -258,9 +258,9 @@ loaded-plain at base size words fits room small =
     let long = length-words_bytes words in
     let meant = length-memory_with base size at (words_bytes words) from (omega arith) in
     let made = length-loaded (plain at words) base size in
-    ext_get_or 0 (loaded (plain at words) base size) (memory_with base size at (words_bytes words)) (omega arith)
+    ext_get_or 0 (loaded_bytes (plain at words) base size) (memory_with base size at (words_bytes words)) (omega arith)
     (λ k h. loaded_at (plain at words) base size k (omega arith)
-    ∙ ap (λ s. byte_at (plain at words) s (base + k)) (sym (segments_of-plain at words (omega arith) (omega arith)))
+    ∙ ap (λ s. loaded_byte (plain at words) s (base + k)) (sym (segments_of-plain at words (omega arith) (omega arith)))
     ∙ same_byte at base size k words fits (omega arith))
 
 -- its words, where they may be fetched
@@ -297,8 +297,8 @@ word_at-plain at base size i words fits room small within word_fits =
     let bytes = loaded-plain at base size words fits room small in
     let whole : (at + 4 * i) % 4 ≡ 0 = grind arith in
     let test = ap (λ r. eqb ((at + 4 * i) % 4) 0 && is_fetched r (at + 4 * i)) ranges ∙ fetched at (4 * length words) (at + 4 * i) whole (omega arith) (omega arith) in
-    let value : value_at (loaded (plain at words) base size) (at + 4 * i - base) 4 ≡ get_or words i 0 =
+    let value : value_at (loaded_bytes (plain at words) base size) (at + 4 * i - base) 4 ≡ get_or words i 0 =
     ap (λ l. value_at l (at + 4 * i - base) 4) bytes
     ∙ ap (λ p. value_at (memory_with base size at (words_bytes words)) p 4) (omega arith)
     ∙ value_in base size at i words within ∙ word_value (get_or words i 0) word_fits in
-    ap (λ b. cond b (Some (value_at (loaded (plain at words) base size) (at + 4 * i - base) 4)) None) test ∙ ap (λ v. Some v) value
+    ap (λ b. cond b (Some (value_at (loaded_bytes (plain at words) base size) (at + 4 * i - base) 4)) None) test ∙ ap (λ v. Some v) value

@@ -12,7 +12,7 @@ use Rattle.elf_loader.specs.Header.{header_of, is_not_elf, is_not_class32, is_no
 use Rattle.elf_loader.proofs.SegmentFacts.{loadable}
 use Rattle.elf_loader.specs.Segments.{segments_of, is_dynamic, IsLoadable, is_bad, is_outside, numbered, overlaps_earlier, has_no_live, is_bad_entry}
 use Rattle.elf_loader.specs.Image.{ImageView}
-use Rattle.elf_loader.specs.Refusal.{first_some, when, rules, refusal}
+use Rattle.elf_loader.specs.Refusal.{first_some, fault_when, rules, refusal}
 
 -- rules that are broken among the first ones, or not
 pub broken_before : (front back : List (Option ImageFault)) (f : ImageFault) → first_some front ≡ Some f → first_some (front ++ back) ≡ Some f
@@ -40,18 +40,18 @@ option_map-None fault (Some k) h = cc
 
 -- the rules, as they are judged one part after the other over a header and program headers
 abbrev pub short_rules : ℕ → List (Option ImageFault)
-short_rules file_bytes = when (nat_lt file_bytes 52) Short ∷ []
+short_rules file_bytes = fault_when (nat_lt file_bytes 52) Short ∷ []
 
 abbrev pub identity_rules : Header → List (Option ImageFault)
 identity_rules h =
-    when (is_not_elf h) NotElf ∷ when (is_not_class32 h) NotClass32 ∷ when (is_not_little h) NotLittle ∷ when (has_bad_version h) BadVersion ∷ []
+    fault_when (is_not_elf h) NotElf ∷ fault_when (is_not_class32 h) NotClass32 ∷ fault_when (is_not_little h) NotLittle ∷ fault_when (has_bad_version h) BadVersion ∷ []
 
 abbrev pub kind_rules : Header → List (Option ImageFault)
-kind_rules h = when (is_not_exec h) NotExec ∷ when (is_not_riscv h) NotRiscv ∷ when (has_bad_flags h) (BadFlags h.e_flags) ∷ []
+kind_rules h = fault_when (is_not_exec h) NotExec ∷ fault_when (is_not_riscv h) NotRiscv ∷ fault_when (has_bad_flags h) (BadFlags h.e_flags) ∷ []
 
 abbrev pub table_rules : ℕ → Header → List (Option ImageFault)
 table_rules file_bytes h =
-    when (has_bad_size h) BadHeaderSize ∷ when (has_too_many h) (TooManySegments h.e_phnum) ∷ when (is_table_outside file_bytes h) TableOutside ∷ []
+    fault_when (has_bad_size h) BadHeaderSize ∷ fault_when (has_too_many h) (TooManySegments h.e_phnum) ∷ fault_when (is_table_outside file_bytes h) TableOutside ∷ []
 
 abbrev pub segment_rules : ℕ → ℕ → ℕ → List Segment → List (Option ImageFault)
 segment_rules file_bytes base size s =
@@ -62,7 +62,7 @@ segment_rules file_bytes base size s =
     ∷ []
 
 abbrev pub entry_rules : ℕ → List Segment → List (Option ImageFault)
-entry_rules entry s = when (has_no_live s) NoSegment ∷ when (is_bad_entry entry s) (BadEntry entry) ∷ []
+entry_rules entry s = fault_when (has_no_live s) NoSegment ∷ fault_when (is_bad_entry entry s) (BadEntry entry) ∷ []
 
 abbrev after_table : ℕ → Header → List Segment → ℕ → ℕ → List (Option ImageFault)
 after_table file_bytes h s base size = segment_rules file_bytes base size s ++ entry_rules h.e_entry s
@@ -90,7 +90,7 @@ pub too_short : (file : List ℕ) (base size : ℕ) → length file < 52 → ref
 too_short file base size h =
     let test : nat_lt (length file) 52 ≡ true = grind (arith, nat_tests) in
     sym (rules_are file (header_of file) (segments_of file) base size refl refl)
-    ∙ broken_before (short_rules (length file)) (after_short (length file) (header_of file) (segments_of file) base size) Short (ap (λ b. first_some (when b Short ∷ [])) test)
+    ∙ broken_before (short_rules (length file)) (after_short (length file) (header_of file) (segments_of file) base size) Short (ap (λ b. first_some (fault_when b Short ∷ [])) test)
 
 -- what is known once the parts up to one were judged
 pub record IsLong (file : List ℕ) : Type 0 where
@@ -99,7 +99,7 @@ pub record IsLong (file : List ℕ) : Type 0 where
 pub long_enough : (file : List ℕ) → 52 ≤ length file → IsLong file
 long_enough file h =
     let test : nat_lt (length file) 52 ≡ false = grind (arith, nat_tests) in
-    record { long = ap (λ b. first_some (when b Short ∷ [])) test }
+    record { long = ap (λ b. first_some (fault_when b Short ∷ [])) test }
 
 past_short : (file : List ℕ) (h : Header) (s : List Segment) (base size : ℕ) → IsLong file → h ≡ header_of file → s ≡ segments_of file
     → refusal file base size ≡ first_some (after_short (length file) h s base size)
@@ -192,7 +192,7 @@ named_none : AreNamed []
 named_none = record { named = λ (e : None ≡ Some OutOfMemory). cc }
 
 named_when : (broken : Bool) (fault : ImageFault) (rules : List (Option ImageFault)) → is_memory fault ≡ false → AreNamed rules
-    → AreNamed (when broken fault ∷ rules)
+    → AreNamed (fault_when broken fault ∷ rules)
 named_when true fault rules h rest = record { named = other fault h }
 named_when false fault rules h rest = record { named = rest.named }
 
@@ -267,7 +267,7 @@ loadable_where_kept file base size kept =
     loadable_by_rules (length file) base size s s refl
     (front_kept (segment_rules (length file) base size s) (entry_rules (header_of file).e_entry s) (kept_after_table file base size kept))
 
-kept_test : (b : Bool) (fault : ImageFault) → when b fault ≡ None → b ≡ false
+kept_test : (b : Bool) (fault : ImageFault) → fault_when b fault ≡ None → b ≡ false
 kept_test true fault h = cc
 kept_test false fault h = refl
 
@@ -275,7 +275,7 @@ pub entry_where_kept : (file : List ℕ) (base size : ℕ) → refusal file base
 entry_where_kept file base size kept =
     let s = segments_of file in
     let entry = (header_of file).e_entry in
-    let none = when (has_no_live s) NoSegment in
-    let bad = when (is_bad_entry entry s) (BadEntry entry) in
+    let none = fault_when (has_no_live s) NoSegment in
+    let bad = fault_when (is_bad_entry entry s) (BadEntry entry) in
     let parts = back_kept (segment_rules (length file) base size s) (entry_rules entry s) (kept_after_table file base size kept) in
     kept_test _ (BadEntry entry) (first_kept bad [] (rest_kept none (bad ∷ []) parts))

@@ -10,18 +10,18 @@ abbrev pub holds : ℕ → Segment → Bool
 holds addr s = is_live s && (nat_le s.p_vaddr addr && nat_lt addr (memory_end s))
 
 -- the byte of a segment at an address in it: of the file, or 0 past the bytes that the file has
-abbrev pub byte_of : List ℕ → Segment → ℕ → ℕ
-byte_of file s addr =
+abbrev pub segment_byte : List ℕ → Segment → ℕ → ℕ
+segment_byte file s addr =
     if nat_lt (addr - s.p_vaddr) s.p_filesz then slice_index file (s.p_offset + (addr - s.p_vaddr)) else 0
 
 -- the byte of memory at an address: that of the live segment that holds it, and else 0
-abbrev pub byte_at : List ℕ → List Segment → ℕ → ℕ
-byte_at file [] addr = 0
-byte_at file (s ∷ segments) addr = if holds addr s then byte_of file s addr else byte_at file segments addr
+abbrev pub loaded_byte : List ℕ → List Segment → ℕ → ℕ
+loaded_byte file [] addr = 0
+loaded_byte file (s ∷ segments) addr = if holds addr s then segment_byte file s addr else loaded_byte file segments addr
 
 -- the `size` bytes of memory from `base` on (unfoldable, since at a known size it has as many numbers)
-unfoldable pub loaded : List ℕ → ℕ → ℕ → List ℕ
-loaded file base size = map (byte_at file (segments_of file)) (range_with_len base size)
+unfoldable pub loaded_bytes : List ℕ → ℕ → ℕ → List ℕ
+loaded_bytes file base size = map (loaded_byte file (segments_of file)) (range_with_len base size)
 
 -- a segment's range of addresses, as first address and length
 abbrev pub range_of : Segment → ℕ × ℕ
@@ -34,7 +34,7 @@ fetch_ranges segments = map range_of (filter is_fetchable segments)
 -- memory and ranges of a loaded file
 abbrev pub code_of : List ℕ → ℕ → ℕ → CodeView
 code_of file base size =
-    record { base = base; bytes = loaded file base size; ranges = fetch_ranges (segments_of file) }
+    record { base = base; bytes = loaded_bytes file base size; ranges = fetch_ranges (segments_of file) }
 
 -- the file has the byte at an address of a live segment
 abbrev pub is_copied : ℕ → Segment → Bool
@@ -42,7 +42,7 @@ is_copied addr s = is_live s && (nat_le s.p_vaddr addr && nat_lt addr (s.p_vaddr
 
 -- memory from `base` on has a segment's bytes at its addresses
 abbrev pub IsInMemory : List ℕ → ℕ → List ℕ → Segment → Type 0
-IsInMemory file base memory s = (addr : ℕ) → IsTrue (holds addr s) → slice_index memory (addr - base) ≡ byte_of file s addr
+IsInMemory file base memory s = (addr : ℕ) → IsTrue (holds addr s) → slice_index memory (addr - base) ≡ segment_byte file s addr
 
 -- `size` bytes of memory from `base` on are 0 at each address in none of these segments
 abbrev pub IsZeroElsewhere : ℕ → ℕ → List ℕ → List Segment → Type 0

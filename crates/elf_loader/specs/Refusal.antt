@@ -8,8 +8,8 @@ use Rattle.elf_loader.specs.declared.fault.ImageFault.{ImageFault}
 use Rattle.elf_loader.specs.declared.fault.ImageFault.TheVariants.{Short, NotElf, NotClass32, NotLittle, BadVersion, NotExec, NotRiscv, BadFlags, BadHeaderSize, TooManySegments, TableOutside, Dynamic, BadSegment, SegmentOutside, Overlap, NoSegment, BadEntry}
 
 -- a rule's fault, where the rule is broken
-abbrev pub when : Bool → ImageFault → Option ImageFault
-when broken fault = if broken then Some fault else None
+abbrev pub fault_when : Bool → ImageFault → Option ImageFault
+fault_when broken fault = if broken then Some fault else None
 
 -- the fault of the first rule that is broken
 abbrev pub first_some : List (Option ImageFault) → Option ImageFault
@@ -23,23 +23,23 @@ unfoldable pub rules : List ℕ → ℕ → ℕ → List (Option ImageFault)
 rules file base size =
     let header = header_of file in
     let segments = segments_of file in
-    when (nat_lt (length file) 52) Short
-    ∷ when (is_not_elf header) NotElf
-    ∷ when (is_not_class32 header) NotClass32
-    ∷ when (is_not_little header) NotLittle
-    ∷ when (has_bad_version header) BadVersion
-    ∷ when (is_not_exec header) NotExec
-    ∷ when (is_not_riscv header) NotRiscv
-    ∷ when (has_bad_flags header) (BadFlags header.e_flags)
-    ∷ when (has_bad_size header) BadHeaderSize
-    ∷ when (has_too_many header) (TooManySegments header.e_phnum)
-    ∷ when (is_table_outside (length file) header) TableOutside
+    fault_when (nat_lt (length file) 52) Short
+    ∷ fault_when (is_not_elf header) NotElf
+    ∷ fault_when (is_not_class32 header) NotClass32
+    ∷ fault_when (is_not_little header) NotLittle
+    ∷ fault_when (has_bad_version header) BadVersion
+    ∷ fault_when (is_not_exec header) NotExec
+    ∷ fault_when (is_not_riscv header) NotRiscv
+    ∷ fault_when (has_bad_flags header) (BadFlags header.e_flags)
+    ∷ fault_when (has_bad_size header) BadHeaderSize
+    ∷ fault_when (has_too_many header) (TooManySegments header.e_phnum)
+    ∷ fault_when (is_table_outside (length file) header) TableOutside
     ∷ option_map Dynamic (position is_dynamic segments)
     ∷ option_map BadSegment (position (is_bad (length file)) segments)
     ∷ option_map SegmentOutside (position (is_outside base size) segments)
     ∷ option_map Overlap (position (overlaps_earlier segments) (numbered segments))
-    ∷ when (has_no_live segments) NoSegment
-    ∷ when (is_bad_entry header.e_entry segments) (BadEntry header.e_entry)
+    ∷ fault_when (has_no_live segments) NoSegment
+    ∷ fault_when (is_bad_entry header.e_entry segments) (BadEntry header.e_entry)
     ∷ []
 
 -- why a file isn't loaded, if it isn't

@@ -29,7 +29,7 @@ ghost use Rattle.elf_loader.specs.Segments.{
   is_bad_entry,
   IsLoadable,
 };
-ghost use Rattle.elf_loader.specs.Refusal.{rules, when, IsVerdict};
+ghost use Rattle.elf_loader.specs.Refusal.{rules, fault_when, IsVerdict};
 ghost use Rattle.elf_loader.specs.declared.fault.ImageFault.TheVariants as fault;
 
 use crate::ImageFault;
@@ -63,10 +63,10 @@ pub struct Accepted {
 
 fn judge_identity(header: &Header) -> Result<(), ImageFault>
     ensures { IsVerdict result (
-        when (is_not_elf header.now) fault.NotElf
-        ∷ when (is_not_class32 header.now) fault.NotClass32
-        ∷ when (is_not_little header.now) fault.NotLittle
-        ∷ when (has_bad_version header.now) fault.BadVersion
+        fault_when (is_not_elf header.now) fault.NotElf
+        ∷ fault_when (is_not_class32 header.now) fault.NotClass32
+        ∷ fault_when (is_not_little header.now) fault.NotLittle
+        ∷ fault_when (has_bad_version header.now) fault.BadVersion
         ∷ []) }
 {
     if header.ei_magic != ELF_MAGIC {
@@ -86,9 +86,9 @@ fn judge_identity(header: &Header) -> Result<(), ImageFault>
 
 fn judge_kind(header: &Header) -> Result<(), ImageFault>
     ensures { IsVerdict result (
-        when (is_not_exec header.now) fault.NotExec
-        ∷ when (is_not_riscv header.now) fault.NotRiscv
-        ∷ when (has_bad_flags header.now) (fault.BadFlags header.now.e_flags)
+        fault_when (is_not_exec header.now) fault.NotExec
+        ∷ fault_when (is_not_riscv header.now) fault.NotRiscv
+        ∷ fault_when (has_bad_flags header.now) (fault.BadFlags header.now.e_flags)
         ∷ []) }
 {
     if header.e_type != EXECUTABLE {
@@ -105,9 +105,9 @@ fn judge_kind(header: &Header) -> Result<(), ImageFault>
 
 fn judge_table(header: &Header, file_bytes: usize) -> Result<(), ImageFault>
     ensures { IsVerdict result (
-        when (has_bad_size header.now) fault.BadHeaderSize
-        ∷ when (has_too_many header.now) (fault.TooManySegments header.now.e_phnum)
-        ∷ when (is_table_outside file_bytes header.now) fault.TableOutside
+        fault_when (has_bad_size header.now) fault.BadHeaderSize
+        ∷ fault_when (has_too_many header.now) (fault.TooManySegments header.now.e_phnum)
+        ∷ fault_when (is_table_outside file_bytes header.now) fault.TableOutside
         ∷ []) }
 {
     if header.has_bad_size() {
@@ -202,8 +202,8 @@ fn hold_word(segments: &[Segment], address: u32) -> bool
 
 fn judge_entry(entry: u32, segments: &[Segment]) -> Result<(), ImageFault>
     ensures { IsVerdict result (
-        when (has_no_live segments.now) fault.NoSegment
-        ∷ when (is_bad_entry entry segments.now) (fault.BadEntry entry)
+        fault_when (has_no_live segments.now) fault.NoSegment
+        ∷ fault_when (is_bad_entry entry segments.now) (fault.BadEntry entry)
         ∷ []) }
 {
     if !has_live(segments) {

@@ -20,7 +20,7 @@ ghost use Rattle.rv32_hart.specs.Code.{word_at};
 ghost use Rattle.elf_loader.specs.Header.{header_of};
 ghost use Rattle.elf_loader.specs.Segments.{segments_of};
 ghost use Rattle.elf_loader.specs.Refusal.{refusal};
-ghost use Rattle.elf_loader.specs.Loaded.{loaded, fetch_ranges, code_of, IsInMemory, IsZeroElsewhere};
+ghost use Rattle.elf_loader.specs.Loaded.{loaded_bytes, fetch_ranges, code_of, IsInMemory, IsZeroElsewhere};
 ghost use Rattle.elf_loader.specs.Plain.{plain, words_bytes, memory_with, IsPlainIn};
 
 /// A law: a plain image is loaded, with its words at its address, where they may be fetched, and zeros elsewhere.
@@ -31,7 +31,7 @@ pub fn plain_image_is_loaded(at: u32, words: &[u32], base: u32, size: u32)
     ensures entry { (header_of (plain at words.now)).e_entry ≡ at }
     ensures ranges { fetch_ranges (segments_of (plain at words.now))
         ≡ (at, 4 * length words.now) ∷ [] }
-    ensures bytes { loaded (plain at words.now) base size
+    ensures bytes { loaded_bytes (plain at words.now) base size
         ≡ memory_with base size at (words_bytes words.now) }
     ensures words { (i : ℕ) → i < length words.now
         → word_at (code_of (plain at words.now) base size) (at + 4 * i) ≡ Some (slice_index words.now i) }
@@ -41,9 +41,9 @@ pub fn plain_image_is_loaded(at: u32, words: &[u32], base: u32, size: u32)
 /// order, and zeros elsewhere.
 pub fn segments_are_in_memory(file: &[u8], base: u32, size: u32)
     requires { refusal file.now base size ≡ None }
-    ensures inside { All (IsInMemory file.now base (loaded file.now base size))
+    ensures inside { All (IsInMemory file.now base (loaded_bytes file.now base size))
         (segments_of file.now) }
-    ensures elsewhere { IsZeroElsewhere base size (loaded file.now base size)
+    ensures elsewhere { IsZeroElsewhere base size (loaded_bytes file.now base size)
         (segments_of file.now) }
 {}
 

@@ -2,7 +2,7 @@
 ghost use Rattle.std.specs.Prelude.{◌≡◌, ◌+◌, ◌-◌, ◌≤◌, ◌<◌, ℕ, false, length, map, slice_index, IfOk, if◌then◌else◌};
 ghost use Rattle.std.specs.List.{range_with_len};
 ghost use Rattle.elf_loader.specs.Segments.{is_bad, is_outside, IsLoadable};
-ghost use Rattle.elf_loader.specs.Loaded.{byte_at, is_copied, fetch_ranges};
+ghost use Rattle.elf_loader.specs.Loaded.{loaded_byte, is_copied, fetch_ranges};
 
 use crate::segment::Segment;
 use arrayvec::ArrayVec;
@@ -35,7 +35,7 @@ pub fn fill(
 ) -> Result<Vec<u8>, AllocError>
     requires { IsLoadable (length file.now) base size segments.now }
     ensures { IfOk result (λ memory. memory.items
-        ≡ map (byte_at file.now segments.now) (range_with_len base size)) }
+        ≡ map (loaded_byte file.now segments.now) (range_with_len base size)) }
 {
     let mut memory = vec![in alloc; 0u8; size as usize]?;
     for segment in segments {

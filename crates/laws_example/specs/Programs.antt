@@ -6,20 +6,20 @@ use Rattle.chip_config.specs.Settings.{settings}
 use Rattle.chip_laws.specs.Design.{Design}
 
 -- the bytes of words, the low one first
-abbrev pub bytes_of : List ℕ → List ℕ
-bytes_of [] = []
-bytes_of (word ∷ words) =
-    word % 256 ∷ word / 256 % 256 ∷ word / 65536 % 256 ∷ word / 16777216 ∷ bytes_of words
+abbrev pub word_bytes : List ℕ → List ℕ
+word_bytes [] = []
+word_bytes (word ∷ words) =
+    word % 256 ∷ word / 256 % 256 ∷ word / 65536 % 256 ∷ word / 16777216 ∷ word_bytes words
 
 -- a program is entered at its first word
-abbrev pub design_of : Config → List ℕ → Design
-design_of config words = record {
+abbrev pub program_design : Config → List ℕ → Design
+program_design config words = record {
   config = settings config;
   image = record {
     entry = 128;
     code = record {
       base = 0;
-      bytes = replicate 128 0 ++ bytes_of words
+      bytes = replicate 128 0 ++ word_bytes words
           ++ replicate (config.mem_bytes - 128 - 4 * length words) 0;
       ranges = (128, 4 * length words) ∷ [];
     };

@@ -8,7 +8,7 @@ use Rattle.traffic_trace.specs.declared.note.Kind.TheVariants as Kind_is
 use Rattle.line_memory.specs.Notes.{note_of}
 use Rattle.chip_laws.specs.Design.{Design}
 use Rattle.laws_example.specs.Configs.{with_two_harts}
-use Rattle.laws_example.specs.Programs.{design_of}
+use Rattle.laws_example.specs.Programs.{program_design}
 use Rattle.laws_example.specs.Runs.{ComesTo}
 
 -- its words
@@ -21,11 +21,11 @@ words =
     ∷ [])
 
 unfoldable pub design : Design
-design = design_of with_two_harts words
+design = program_design with_two_harts words
 
 -- both store to one line, and both then load another one
-abbrev pub events : List Actor
-events =
+abbrev pub worked_events : List Actor
+worked_events =
     replicate 2 (Actor_is.Hart 0)
     ++ replicate 2 (Actor_is.Hart 1)
     ++ replicate 1 (Actor_is.Hart 0)
@@ -33,7 +33,7 @@ events =
 
 abbrev pub TwoHarts : Type 0
 TwoHarts =
-    ComesTo design events (record {
+    ComesTo design worked_events (record {
       order =
           (Step 0 ∷ Step 0 ∷ Step 1 ∷ Step 1 ∷ [])
           ++ (Step 0 ∷ Step 1 ∷ []);

@@ -10,7 +10,7 @@ use Rattle.conda_base.specs.declared.Line.{Line}
 use Rattle.conda_base.specs.declared.Mesi.{Mesi}
 use Rattle.conda_base.specs.declared.Mesi.TheVariants.{M, E, S}
 use Rattle.line_memory.specs.Tags.{Tag, is_modified, cleaned_state, cleaned_line, modified, each_below}
-use Rattle.line_memory.specs.Backing.{BackingView, IsBacking, IsFirstDirty, place_of, modified_from, dirty_from, dirty_in, flushed}
+use Rattle.line_memory.specs.Backing.{BackingView, IsBacking, IsFirstDirty, way_place, modified_from, dirty_from, dirty_in, flushed}
 
 test_by_apart : (a b : ℕ) → a ≢ b → eqb a b ≡ false
 test_by_apart a b apart = ⊎_elim (λ on. absurd (apart (eqb-true a b on))) (λ off. off) (cases_Bool (eqb a b))
@@ -97,25 +97,25 @@ modified_from-step place (suc way) (tag ∷ tags) =
 pub dirty_from-zero : (b : BackingView) → dirty_from b 0 ≡ dirty_in b
 dirty_from-zero b =
     each_same b.holders _ _
-    (λ holder inside. each_same b.sets _ _ (λ set below. modified_from-all 0 (place_of b holder set 0) (b.tags holder set) (omega arith)))
+    (λ holder inside. each_same b.sets _ _ (λ set below. modified_from-all 0 (way_place b holder set 0) (b.tags holder set) (omega arith)))
 
 -- the step of the walk: the dirty lines at or after a place are the line of that place, where it is in M, and those after it
-pub dirty_from-step : (b : BackingView) (holder set way : ℕ) → ((h s : ℕ) → length (b.tags h s) ≤ b.ways) → holder < b.holders → set < b.sets → way < b.ways → dirty_from b (place_of b holder set way) ≡ modified_at (slice_get (b.tags holder set) way) ++ dirty_from b (place_of b holder set way + 1)
+pub dirty_from-step : (b : BackingView) (holder set way : ℕ) → ((h s : ℕ) → length (b.tags h s) ≤ b.ways) → holder < b.holders → set < b.sets → way < b.ways → dirty_from b (way_place b holder set way) ≡ modified_at (slice_get (b.tags holder set) way) ++ dirty_from b (way_place b holder set way + 1)
 dirty_from-step b holder set way short inside below within =
-    let p : ℕ = place_of b holder set way in
-    let start : place_of b holder set 0 + way ≡ p = omega arith in
-    let lists : ℕ → ℕ → ℕ → List Line = λ from h s. modified_from from (place_of b h s 0) (b.tags h s) in
+    let p : ℕ = way_place b holder set way in
+    let start : way_place b holder set 0 + way ≡ p = omega arith in
+    let lists : ℕ → ℕ → ℕ → List Line = λ from h s. modified_from from (way_place b h s 0) (b.tags h s) in
     let before : (from h s : ℕ) → p ≤ from → h * b.sets + s < holder * b.sets + set → lists from h s ≡ [] =
     λ from h s past earlier.
     let gap = mul-le-mul_left b.ways earlier in
     let few = short h s in
-    modified_from-past from (place_of b h s 0) (b.tags h s) (omega arith) in
+    modified_from-past from (way_place b h s 0) (b.tags h s) (omega arith) in
     let after : (h s : ℕ) → holder * b.sets + set < h * b.sets + s → lists p h s ≡ lists (p + 1) h s =
     λ h s later.
     let gap = mul-le-mul_left b.ways later in
-    modified_from-all p (place_of b h s 0) (b.tags h s) (omega arith) ∙ sym (modified_from-all (p + 1) (place_of b h s 0) (b.tags h s) (omega arith)) in
+    modified_from-all p (way_place b h s 0) (b.tags h s) (omega arith) ∙ sym (modified_from-all (p + 1) (way_place b h s 0) (b.tags h s) (omega arith)) in
     let here : lists p holder set ≡ modified_at (slice_get (b.tags holder set) way) ++ lists (p + 1) holder set =
-    rw (start) at (modified_from-step (place_of b holder set 0) way (b.tags holder set)) in
+    rw (start) at (modified_from-step (way_place b holder set 0) way (b.tags holder set)) in
     each_step b.holders holder _ _ (modified_at (slice_get (b.tags holder set) way)) inside
     (λ h earlier. each_empty b.sets _ (λ s low. let gap = mul-le-mul_left b.sets earlier in before p h s (omega arith) (omega arith)))
     (λ h earlier. each_empty b.sets _ (λ s low. let gap = mul-le-mul_left b.sets earlier in before (p + 1) h s (omega arith) (omega arith)))
@@ -154,9 +154,9 @@ pub dirty_from-flushed : (b : BackingView) (l : Line) (from : ℕ) → dirty_fro
 dirty_from-flushed b l from =
     each_same b.holders _ _
     (λ holder inside.
-    each_same b.sets _ _ (λ set below. modified_from-cleaned l from (place_of b holder set 0) (b.tags holder set)) ∙
-    sym (each_filter (is_other l) b.sets (λ set. modified_from from (place_of b holder set 0) (b.tags holder set)))) ∙
-    sym (each_filter (is_other l) b.holders (λ holder. each_below b.sets (λ set. modified_from from (place_of b holder set 0) (b.tags holder set))))
+    each_same b.sets _ _ (λ set below. modified_from-cleaned l from (way_place b holder set 0) (b.tags holder set)) ∙
+    sym (each_filter (is_other l) b.sets (λ set. modified_from from (way_place b holder set 0) (b.tags holder set)))) ∙
+    sym (each_filter (is_other l) b.holders (λ holder. each_below b.sets (λ set. modified_from from (way_place b holder set 0) (b.tags holder set))))
 
 -- it is this line
 abbrev pub is_this : Line → Line → Bool
@@ -186,7 +186,7 @@ count-modified_from l from place (tag ∷ tags) =
 count-dirty_from : (b : BackingView) (l : Line) (from : ℕ) → count_by (is_this l) (dirty_from b from) ≤ count_by (is_this l) (dirty_in b)
 count-dirty_from b l from =
     each_count (is_this l) b.holders _ _
-    (λ holder inside. each_count (is_this l) b.sets _ _ (λ set below. count-modified_from l from (place_of b holder set 0) (b.tags holder set)))
+    (λ holder inside. each_count (is_this l) b.sets _ _ (λ set below. count-modified_from l from (way_place b holder set 0) (b.tags holder set)))
 
 count_none : (l : Line) (ls : List Line) → ((k : ℕ) (d : Line) → k < length ls → (get_or ls k d).0 ≢ l.0) → count_by (is_this l) ls ≡ 0
 count_none l [] none = refl

@@ -4,7 +4,7 @@ use Rattle.conda_base.specs.declared.Line.{Line}
 use Rattle.conda_base.specs.declared.Mesi.{Mesi}
 use Rattle.conda_base.specs.declared.Mesi.TheVariants.{M, E, S}
 use Rattle.conda_base.specs.LineLists.{names, same_line}
-use Rattle.line_memory.specs.Tags.{Tag, Tags, Shape, set_of, held_state, some_below, without_line, cleaned_state, cleaned_line}
+use Rattle.line_memory.specs.Tags.{Tag, Tags, Shape, set_number, held_state, some_below, without_line, cleaned_state, cleaned_line}
 
 -- some holder other than h has the line
 abbrev pub is_held_elsewhere : Shape → Tags → ℕ → Line → Bool
@@ -42,13 +42,13 @@ changed_set h set own other tags k s =
 abbrev pub after_load : Shape → Tags → ℕ → Line → Tags
 after_load shape tags h l =
     let before = held_state shape tags h l in
-    changed_set h (set_of shape l)
+    changed_set h (set_number shape l)
     (put_front shape.ways l (loaded_state shape tags h l before)) (list_beside_load l before) tags
 
 -- A store takes the line from all others and puts it in front as M.
 abbrev pub after_store : Shape → Tags → ℕ → Line → Tags
 after_store shape tags h l =
-    changed_set h (set_of shape l) (put_front shape.ways l M) (without_line l) tags
+    changed_set h (set_number shape l) (put_front shape.ways l M) (without_line l) tags
 
 -- one access of a holder to a line
 abbrev pub after_access : Shape → Tags → ℕ → Line → Bool → Tags

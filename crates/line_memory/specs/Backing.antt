@@ -53,8 +53,8 @@ abbrev pub IsDirty : BackingView → Line → Type 0
 IsDirty b l = Contains (dirty_in b) l
 
 -- the place of a way of a holder's set
-abbrev pub place_of : BackingView → ℕ → ℕ → ℕ → ℕ
-place_of b holder set way = (holder * b.sets + set) * b.ways + way
+abbrev pub way_place : BackingView → ℕ → ℕ → ℕ → ℕ
+way_place b holder set way = (holder * b.sets + set) * b.ways + way
 
 -- the lines in M of a list at or after the place `from`, where the list's first line has the given place
 abbrev pub modified_from : ℕ → ℕ → List Tag → List Line
@@ -66,7 +66,7 @@ modified_from from place (tag ∷ tags) =
 
 -- the dirty lines at or after a place, in walk order
 abbrev pub dirty_from : BackingView → ℕ → List Line
-dirty_from b from = each_below b.holders (λ holder. each_below b.sets (λ set. modified_from from (place_of b holder set 0) (b.tags holder set)))
+dirty_from b from = each_below b.holders (λ holder. each_below b.sets (λ set. modified_from from (way_place b holder set 0) (b.tags holder set)))
 
 -- the first dirty line at or after `from` is this one, and it stands at this place
 pub record IsFirstDirty (b : BackingView) (from place : ℕ) (l : Line) : Type 0 where

@@ -17,20 +17,20 @@ pub record KeepsSource (old new : Seen) : Type 0 where
   pub left : new.left ≡ old.left
 
 -- an entry's line, with its line feed
-abbrev pub line_of : Entry → List ℕ
-line_of entry = text_of entry ++ 10 ∷ []
+abbrev pub entry_line : Entry → List ℕ
+entry_line entry = text_of entry ++ 10 ∷ []
 
 -- the line of an entry was added to the order, and bytes to the output
 pub record Records (old new : Seen) (entry : Entry) (out : List ℕ) : Type 0 where
   pub order : (text : List ℕ) → ShowsText old Order text
-      → ShowsText new Order (text ++ line_of entry)
+      → ShowsText new Order (text ++ entry_line entry)
   pub output : (text : List ℕ) → ShowsText old Output text → ShowsText new Output (text ++ out)
   pub source : KeepsSource old new
 
 -- the same, but a call failed
 pub record RecordsPart (old new : Seen) (entry : Entry) (out : List ℕ) : Type 0 where
   pub order : (text : List ℕ) → ShowsText old Order text
-      → ShowsFront new Order (text ++ line_of entry)
+      → ShowsFront new Order (text ++ entry_line entry)
   pub output : (text : List ℕ) → ShowsText old Output text → ShowsFront new Output (text ++ out)
 
 -- the machine stands for these events, and the texts are those of their journal and of their output

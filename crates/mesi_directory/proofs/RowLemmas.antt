@@ -11,7 +11,7 @@ use Rattle.std.proofs.lemmas.List.{get_or-map as get_or-map_within}
 use Rattle.conda_base.specs.declared.Line.{Line}
 use Rattle.mesi_directory.specs.declared.row.Row.{Row}
 use Rattle.mesi_directory.specs.declared.row.Row.TheVariants.{Nobody, Owner, Shared}
-use Rattle.mesi_directory.specs.Rows.{Rows, HasRow, row_of, with_row, holder_bits, has, IsRow, shared_with, sharers, without, AreRows, unpacked, unpacked_rows}
+use Rattle.mesi_directory.specs.Rows.{Rows, HasRow, row_of, with_row, holder_bits, has_holder, IsRow, shared_with, sharers, without_holder, AreRows, unpacked, unpacked_rows}
 
 -- the bit of one holder, at each place
 bit_at_pow : (h k : ℕ) → ((k ≡ h) × (bit_at (2 ^ h) k ≡ 1)) ⊎ ((k ≢ h) × (bit_at (2 ^ h) k ≡ 0))
@@ -20,7 +20,7 @@ bit_at_pow h k =
     (λ (apart : k ≢ h). inr (apart, bit_at-pow_other h k apart)) (cases_eq k h)
 
 -- the only holder of a line with an owner is the owner
-pub has-owner : (h k : ℕ) → has (Owner h) k ≡ (k == h)
+pub has-owner : (h k : ℕ) → has_holder (Owner h) k ≡ (k == h)
 has-owner h k = let place = bit_at_pow h k in grind (arith, nat_tests)
 
 pub bits_below : (row : Row) → IsRow row → holder_bits row < 2 ^ 12
@@ -39,7 +39,7 @@ IsRow-shared_with row h is small = (
   or_lt 12 (holder_bits row) (2 ^ h) (bits_below row is) (pow_below h 12 small),
 )
 
-pub has-shared_with : (row : Row) (h k : ℕ) → has (shared_with row h) k ≡ (has row k || k == h)
+pub has-shared_with : (row : Row) (h k : ℕ) → has_holder (shared_with row h) k ≡ (has_holder row k || k == h)
 has-shared_with row h k =
     let place = bit_at_pow h k in
     let joined = bit_at_or (holder_bits row) (2 ^ h) k in
@@ -56,7 +56,7 @@ IsRow-sharers bits small =
     ⊎_elim (λ none. rw none tt)
     (λ (some : eqb bits 0 ≡ false). rw some (grind (arith, nat_tests), small)) (cases_Bool (eqb bits 0))
 
-pub IsRow-without : (row : Row) (h : ℕ) → IsRow row → h < 12 → IsRow (without row h)
+pub IsRow-without : (row : Row) (h : ℕ) → IsRow row → h < 12 → IsRow (without_holder row h)
 IsRow-without row h is small =
     IsRow-sharers (bit_xor (holder_bits row) (2 ^ h)) (xor_lt 12 (holder_bits row) (2 ^ h) (bits_below row is) (pow_below h 12 small))
 
@@ -69,13 +69,13 @@ has-toggled bits h k one =
     grind (arith, nat_tests))
     (λ (apart : (k ≢ h) × (bit_at (2 ^ h) k ≡ 0)). grind (arith, nat_tests)) (bit_at_pow h k)
 
-pub has-without : (row : Row) (h k : ℕ) → IsTrue (has row h) → has (without row h) k ≡ (has row k && not (k == h))
+pub has-without : (row : Row) (h k : ℕ) → IsTrue (has_holder row h) → has_holder (without_holder row h) k ≡ (has_holder row k && not (k == h))
 has-without row h k held =
     ap (λ n. eqb (bit_at n k) 1) (bits_of_sharers (bit_xor (holder_bits row) (2 ^ h))) ∙
     has-toggled (holder_bits row) h k (eqb-true _ _ held)
 
 -- each holder is below 12
-pub held_below : (row : Row) (h : ℕ) → IsRow row → IsTrue (has row h) → h < 12
+pub held_below : (row : Row) (h : ℕ) → IsRow row → IsTrue (has_holder row h) → h < 12
 held_below row h is held =
     ⊎_elim (λ below. below)
     (λ (above : 12 ≤ h). absurd (omega (arith, eqb-true (bit_at (holder_bits row) h) 1 held, bit_at_above (holder_bits row) 12 h (bits_below row is) above)))

@@ -12,8 +12,8 @@ holder_bits (Owner h) = 2 ^ h
 holder_bits (Shared bits) = bits
 
 -- holder h has the line
-abbrev pub has : Row → ℕ → Bool
-has row h = bit_at (holder_bits row) h == 1
+abbrev pub has_holder : Row → ℕ → Bool
+has_holder row h = bit_at (holder_bits row) h == 1
 
 -- an owner is below 12; sharers are below 12 too, and there is one at least
 abbrev pub IsRow : Row → Type 0
@@ -30,8 +30,8 @@ abbrev pub sharers : ℕ → Row
 sharers bits = if bits == 0 then Nobody else Shared bits
 
 -- h, which has the line, has it no longer
-abbrev pub without : Row → ℕ → Row
-without row h = sharers (bit_xor (holder_bits row) (2 ^ h))
+abbrev pub without_holder : Row → ℕ → Row
+without_holder row h = sharers (bit_xor (holder_bits row) (2 ^ h))
 
 -- the lowest line, and the row of each line from it on
 pub record Rows : Type 0 where

@@ -1,6 +1,6 @@
 // Which hart caches hold each line.
 ghost use Rattle.std.specs.Prelude.{ℕ, ◌≡◌, ◌+◌, ◌-◌, ◌<◌, ◌≤◌, ◌==◌, ◌||◌, ◌&&◌, not, IsTrue, IfOk, length, replicate, slice_index_or, slice_set};
-ghost use Rattle.mesi_directory.specs.Rows.{Rows, IsRow, AreRows, HasRow, row_of, with_row, has, shared_with, unpacked_rows, without};
+ghost use Rattle.mesi_directory.specs.Rows.{Rows, IsRow, AreRows, HasRow, row_of, with_row, has_holder, shared_with, unpacked_rows, without_holder};
 ghost use Rattle.mesi_directory.specs.declared.row.Row.TheVariants.{Nobody, Owner};
 
 use crate::Row;
@@ -59,7 +59,7 @@ impl Directory {
         requires line { HasRow self.old l }
         requires holder { h < 12 }
         ensures row { row_of self.new l ≡ Owner h }
-        ensures holders { (k : ℕ) → has (row_of self.new l) k ≡ (k == h) }
+        ensures holders { (k : ℕ) → has_holder (row_of self.new l) k ≡ (k == h) }
         ensures others { self.new ≡ with_row self.old l (Owner h) }
         ensures kept { AreRows self.new.rows }
     {
@@ -73,7 +73,7 @@ impl Directory {
         requires holder { h < 12 }
         ensures row { row_of self.new l ≡ shared_with (row_of self.old l) h }
         ensures holders { (k : ℕ) →
-            has (row_of self.new l) k ≡ (has (row_of self.old l) k || k == h) }
+            has_holder (row_of self.new l) k ≡ (has_holder (row_of self.old l) k || k == h) }
         ensures others { self.new ≡ with_row self.old l (shared_with (row_of self.old l) h) }
         ensures kept { AreRows self.new.rows }
     {
@@ -85,11 +85,11 @@ impl Directory {
     /// Takes `h`, a holder of a line, out of its holders. Those that are left share it.
     pub fn leave(&mut self, l: Line, h: u8)
         requires line { HasRow self.old l }
-        requires held { IsTrue (has (row_of self.old l) h) }
-        ensures row { row_of self.new l ≡ without (row_of self.old l) h }
+        requires held { IsTrue (has_holder (row_of self.old l) h) }
+        ensures row { row_of self.new l ≡ without_holder (row_of self.old l) h }
         ensures holders { (k : ℕ) →
-            has (row_of self.new l) k ≡ (has (row_of self.old l) k && not (k == h)) }
-        ensures others { self.new ≡ with_row self.old l (without (row_of self.old l) h) }
+            has_holder (row_of self.new l) k ≡ (has_holder (row_of self.old l) k && not (k == h)) }
+        ensures others { self.new ≡ with_row self.old l (without_holder (row_of self.old l) h) }
         ensures kept { AreRows self.new.rows }
     {
         let place = self.place(l);

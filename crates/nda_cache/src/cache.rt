@@ -31,7 +31,7 @@ ghost use Rattle.conda_base.specs.Marks.{mixed};
 ghost use Rattle.write_masks.specs.Marks.{Covers};
 ghost use Rattle.nda_cache.specs.Looks.{IsKnown, LooksIn};
 ghost use Rattle.set_assoc.specs.SetLists.{find, list_of, with_list};
-ghost use Rattle.nda_cache.specs.Tried.{HasRoom, IsFound, IsThere, IsTried, empty, filled_from, known_of, put_line, Stores, WritesLine};
+ghost use Rattle.nda_cache.specs.Tried.{HasRoom, IsFound, IsThere, IsTried, no_try_lines, filled_from, known_of, put_line, Stores, WritesLine};
 
 use conda_base::{Line, line_of, offset_of};
 use set_assoc::Sets;
@@ -203,7 +203,7 @@ impl NdaCache {
         requires few_sets { sets ≤ 256 }
         requires some_ways { 0 < ways }
         requires few_ways { ways ≤ 8 }
-        ensures empty { IfOk result (λ c. c ≡ empty line_bytes sets ways) }
+        ensures empty { IfOk result (λ c. c ≡ no_try_lines line_bytes sets ways) }
         ensures kept { IfOk result (λ c. IsTried c) }
     {
         let total = (sets * ways) as usize;
@@ -415,7 +415,7 @@ impl NdaCache {
 
     /// Takes every line out.
     pub fn clear(&mut self)
-        ensures empty { self.new ≡ empty self.old.line_bytes self.old.sets self.old.ways }
+        ensures empty { self.new ≡ no_try_lines self.old.line_bytes self.old.sets self.old.ways }
         ensures kept { IsTried self.new }
     {
         self.index.clear();

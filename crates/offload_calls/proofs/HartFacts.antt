@@ -18,7 +18,7 @@ use Rattle.offload_calls.specs.declared.status.CoreStatus.{CoreStatus}
 use Rattle.offload_calls.specs.declared.status.CoreStatus.TheVariants as Core_is
 use Rattle.offload_calls.specs.Calls.{is_idle, is_running, waits, launches, collects}
 use Rattle.offload_calls.specs.Stores.{Inside, overlay, byte_at, latest}
-use Rattle.offload_calls.specs.Effects.{stores_of_access, is_call, loads_of, loaded}
+use Rattle.offload_calls.specs.Effects.{stores_of_access, is_call, loads_of, span_value}
 use Rattle.offload_calls.specs.State.{Setup, State, updated, status_of, launched_core}
 use Rattle.offload_calls.specs.HartAct.{HartEffect, CoreChange, Stays, Starts, Rests, hart_runs, change_of_call, plan_effect, act_effect, waits_next, steps, cores_after, hart_does, hart_stores, hart_step}
 use Rattle.offload_calls.proofs.StoreLemmas.{length-overlay, bytes_from-inside, byte_at-overlay}
@@ -98,7 +98,7 @@ unfolding waits_next
 act-fits s f h is long free =
     let see : ℕ → Option CoreStatus = status_of s.cores f.cores in
     let r : Regs = (f.harts h).regs in
-    let value : ℕ = loaded (byte_at s.code.base f.memory) (loads_of (plan_of s.code r)) in
+    let value : ℕ = span_value (byte_at s.code.base f.memory) (loads_of (plan_of s.code r)) in
     let e : HartEffect = plan_effect see r (plan_of s.code r) value in
     let inside : All (Inside s.code.base (length s.code.bytes)) e.stores = plan_effect-inside s.code see r (plan_of s.code r) value (plan-fits s.code r is) in
     record {

@@ -5,7 +5,7 @@ use Rattle.std.proofs.lemmas.Bool.{cond_both, eq-eqb}
 use Rattle.std.proofs.lemmas.List.Elements.{All-nil, All-cons}
 use Rattle.conda_base.specs.declared.Line.{Line}
 use Rattle.conda_base.specs.Lines.{IsLineSize, line_number}
-use Rattle.conda_base.specs.LineLists.{line_at, names, list_of}
+use Rattle.conda_base.specs.LineLists.{line_at, names, line_list}
 use Rattle.rv32_hart.specs.declared.regs.Regs.{Regs}
 use Rattle.rv32_hart.specs.declared.regs.Trap.{Trap}
 use Rattle.rv32_hart.specs.declared.act.Access.{Access}
@@ -39,7 +39,7 @@ bytes_from-on base n addr (suc size) value l low at =
     named e = ap (λ b. b || false) (eq-eqb l.0 (line_number addr n) (sym e))
 
 stores-on : (code : CodeView) (n : ℕ) (access : Access) (v : ℕ) → IsLineSize n → AccessFits code access
-    → All (OnLines code.base n (list_of (stored_line (use_of_access n access)))) (stores_of_access v access)
+    → All (OnLines code.base n (line_list (stored_line (use_of_access n access)))) (stores_of_access v access)
 stores-on code n Access_is.Nothing v line h = All-nil _
 stores-on code n (Access_is.Load addr size signed rd) v line h = All-nil _
 stores-on code n (Access_is.Store addr size value) v line h =
@@ -52,23 +52,23 @@ stores-on code n Access_is.Call v line h = All-nil _
 
 -- what an act of a hart stores lies on the line that its access stores to
 plan_effect-on : (code : CodeView) (n : ℕ) (cores : ℕ → Option CoreStatus) (r : Regs) (p : Result Planned Trap) (v : ℕ) → IsLineSize n
-    → IfOk p (IsPlan code) → All (OnLines code.base n (list_of (stored_line (line_use n p)))) (plan_effect cores r p v).stores
+    → IfOk p (IsPlan code) → All (OnLines code.base n (line_list (stored_line (line_use n p)))) (plan_effect cores r p v).stores
 unfolding plan_effect line_use
 plan_effect-on code n cores r (Err trap) v line h = All-nil _
 plan_effect-on code n cores r (Ok p) v line h =
     cond_both (is_call_access p.access) _ _
-    (λ (e : HartEffect). All (OnLines code.base n (list_of (stored_line (use_of_access n p.access)))) e.stores)
+    (λ (e : HartEffect). All (OnLines code.base n (line_list (stored_line (use_of_access n p.access)))) e.stores)
     (λ _. All-nil _) (λ _. stores-on code n p.access v line h.access)
 
 hart_stores-on : (code : CodeView) (n : ℕ) (cores : ℕ → Option CoreStatus) (r : Regs) (v : ℕ) → IsCode code → IsLineSize n
-    → All (OnLines code.base n (list_of (stored_line (line_use n (plan_of code r))))) (plan_effect cores r (plan_of code r) v).stores
+    → All (OnLines code.base n (line_list (stored_line (line_use n (plan_of code r))))) (plan_effect cores r (plan_of code r) v).stores
 hart_stores-on code n cores r v is line = plan_effect-on code n cores r (plan_of code r) v line (plan-fits code r is)
 
 -- ---- a step
 
 -- the lines that the next act of hart h stores to
 abbrev pub hart_lines : Setup → State → ℕ → List Line
-hart_lines s f h = list_of (stored_line (line_use s.line_bytes (plan_of s.code (f.harts h).regs)))
+hart_lines s f h = line_list (stored_line (line_use s.line_bytes (plan_of s.code (f.harts h).regs)))
 
 -- a step's stores lie on the line of its access
 pub step_stores-on : (s : Setup) (f : State) (h : ℕ) → IsCode s.code → IsLineSize s.line_bytes → All (OnLines s.code.base s.line_bytes (hart_lines s f h)) (hart_stores s f h)

@@ -10,7 +10,7 @@ use Rattle.std.proofs.lemmas.List.Elements.{All-nil, All-cons, All-head, All-tai
 use Rattle.conda_base.specs.Bytes.{stored, value_at, number_of}
 use Rattle.conda_base.specs.Lines.{IsAccessSize}
 use Rattle.conda_base.proofs.LineLemmas.{access_size_cases}
-use Rattle.offload_calls.specs.Stores.{Inside, bytes_from, overlay, byte_at, latest, number_at, stored_addresses, has}
+use Rattle.offload_calls.specs.Stores.{Inside, bytes_from, overlay, byte_at, latest, number_at, stored_addresses, is_listed}
 
 -- ---- the bytes of a number
 
@@ -109,19 +109,19 @@ byte_at-overlay base memory (store ∷ stores) addr inside from =
     ∙ ap (latest stores addr) (byte_at-set base memory store.0 store.1 addr here.0 here.1 from)
 
 -- an address that isn't among the stored ones keeps its byte
-pub latest-elsewhere : (stores : List (ℕ × ℕ)) (addr byte : ℕ) → has (stored_addresses stores) addr ≡ false → latest stores addr byte ≡ byte
+pub latest-elsewhere : (stores : List (ℕ × ℕ)) (addr byte : ℕ) → is_listed (stored_addresses stores) addr ≡ false → latest stores addr byte ≡ byte
 latest-elsewhere [] addr byte other = refl
 latest-elsewhere (store ∷ stores) addr byte other =
-    let parts = or_parts (eqb store.0 addr) (has (stored_addresses stores) addr) other in
+    let parts = or_parts (eqb store.0 addr) (is_listed (stored_addresses stores) addr) other in
     ap (λ b. latest stores addr (cond b store.1 byte)) parts.0 ∙ latest-elsewhere stores addr byte parts.1
 
 -- and one that is keeps none of what is below it
-pub latest_stored : (stores : List (ℕ × ℕ)) (addr x y : ℕ) → has (stored_addresses stores) addr ≡ true → latest stores addr x ≡ latest stores addr y
+pub latest_stored : (stores : List (ℕ × ℕ)) (addr x y : ℕ) → is_listed (stored_addresses stores) addr ≡ true → latest stores addr x ≡ latest stores addr y
 latest_stored [] addr x y there = absurd (false≢true there)
 latest_stored (store ∷ stores) addr x y there = go (eqb store.0 addr) there (latest_stored stores addr x y)
   where
-    go : (b : Bool) → (b || has (stored_addresses stores) addr) ≡ true
-        → (has (stored_addresses stores) addr ≡ true → latest stores addr x ≡ latest stores addr y)
+    go : (b : Bool) → (b || is_listed (stored_addresses stores) addr) ≡ true
+        → (is_listed (stored_addresses stores) addr ≡ true → latest stores addr x ≡ latest stores addr y)
         → latest stores addr (cond b store.1 x) ≡ latest stores addr (cond b store.1 y)
     go true there rest = refl
     go false there rest = rest there

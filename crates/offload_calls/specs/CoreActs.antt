@@ -10,10 +10,10 @@ use Rattle.offload_calls.specs.declared.serve.Kernel.TheVariants as Kernel_is
 use Rattle.offload_calls.specs.declared.status.CoreStatus.{CoreStatus}
 use Rattle.offload_calls.specs.declared.status.CoreStatus.TheVariants as Core_is
 use Rattle.offload_calls.specs.Calls.{kernel_served, regs_after_kernel_call}
-use Rattle.offload_calls.specs.Stores.{overlay, byte_at, stored_addresses, has}
+use Rattle.offload_calls.specs.Stores.{overlay, byte_at, stored_addresses, is_listed}
 use Rattle.offload_calls.specs.declared.status.Core.{Core}
 use Rattle.offload_calls.specs.State.{Setup, State, updated}
-use Rattle.offload_calls.specs.Effects.{loads_of, loaded, stores_of_access, span_addresses}
+use Rattle.offload_calls.specs.Effects.{loads_of, span_value, stores_of_access, span_addresses}
 
 abbrev pub core_runs : CoreStatus → Bool
 core_runs Core_is.Idle = false
@@ -66,7 +66,7 @@ kernel_effect r (Err trap) value = record {
 abbrev pub core_effect : Setup → List ℕ → Regs → KernelEffect
 core_effect s memory r =
     let plan = plan_of s.code r in
-    kernel_effect r plan (loaded (byte_at s.code.base memory) (loads_of plan))
+    kernel_effect r plan (span_value (byte_at s.code.base memory) (loads_of plan))
 
 abbrev pub core_does : Setup → State → ℕ → KernelEffect → State
 core_does s f j e = record {
@@ -106,4 +106,4 @@ unfoldable pub outside : Setup → State → ℕ → ℕ → List ℕ
 outside s f j zero = []
 outside s f j (suc n) =
     let g = core_acts s f j n in
-    outside s f j n ++ filter (λ addr. not (has (written s f j n) addr)) (act_loads s (g.cores j))
+    outside s f j n ++ filter (λ addr. not (is_listed (written s f j n) addr)) (act_loads s (g.cores j))

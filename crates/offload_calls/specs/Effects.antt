@@ -34,9 +34,9 @@ stores_of_access value (Access_is.Amo addr op rd word) = bytes_from addr 4 (amo_
 stores_of_access value Access_is.Call = []
 
 -- the zero-extended value that a span holds, by the byte at each address
-abbrev pub loaded : (ℕ → ℕ) → Option Span → ℕ
-loaded byte None = 0
-loaded byte (Some span) = number_at byte span.addr span.size
+abbrev pub span_value : (ℕ → ℕ) → Option Span → ℕ
+span_value byte None = 0
+span_value byte (Some span) = number_at byte span.addr span.size
 
 abbrev pub span_addresses : Option Span → List ℕ
 span_addresses None = []

@@ -17,7 +17,7 @@ use Rattle.offload_calls.specs.Calls.{waits, launches, collects, served, regs_af
 use Rattle.offload_calls.specs.Stores.{overlay, byte_at}
 use Rattle.rv32_hart.specs.Code.{CodeView}
 use Rattle.offload_calls.specs.State.{Setup, State, updated, status_of, launched_core}
-use Rattle.offload_calls.specs.Effects.{loads_of, loaded, stores_of_access, is_call}
+use Rattle.offload_calls.specs.Effects.{loads_of, span_value, stores_of_access, is_call}
 
 abbrev pub hart_runs : HartStatus → Bool
 hart_runs Hart_is.Run = true
@@ -89,7 +89,7 @@ plan_effect cores r (Err trap) value = record {
 abbrev pub act_effect : CodeView → (ℕ → Option CoreStatus) → List ℕ → Regs → HartEffect
 act_effect code cores memory r =
     let plan = plan_of code r in
-    plan_effect cores r plan (loaded (byte_at code.base memory) (loads_of plan))
+    plan_effect cores r plan (span_value (byte_at code.base memory) (loads_of plan))
 
 -- the next act is wait on a core that is Run
 unfoldable pub waits_next : CodeView → (ℕ → Option CoreStatus) → Regs → Bool

@@ -38,6 +38,6 @@ abbrev pub stored_addresses : List (ℕ × ℕ) → List ℕ
 stored_addresses stores = map (λ (store : ℕ × ℕ). store.0) stores
 
 -- a list has this number
-abbrev pub has : List ℕ → ℕ → Bool
-has [] n = false
-has (x ∷ xs) n = (x == n) || has xs n
+abbrev pub is_listed : List ℕ → ℕ → Bool
+is_listed [] n = false
+is_listed (x ∷ xs) n = (x == n) || is_listed xs n

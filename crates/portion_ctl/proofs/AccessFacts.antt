@@ -15,7 +15,7 @@ use Rattle.line_memory.specs.Backing.{BackingView, copy_of}
 use Rattle.nda_cache.specs.declared.cache.Look.{Look}
 use Rattle.nda_cache.specs.declared.cache.Look.TheVariants.{Known, Missing, Full}
 use Rattle.conda_base.specs.LineLists.{line_at, names, with_new}
-use Rattle.try_runs.specs.Tries.{is_covered, outside_line, seen, stored_lines, with_line}
+use Rattle.try_runs.specs.Tries.{is_covered, outside_line, byte_seen, stored_lines, with_some_line}
 use Rattle.try_runs.specs.Fills.{Fills, byte_of, corefill_notes, fills_with, new_line}
 use Rattle.try_runs.specs.Ends.{is_set_full, is_sign_full}
 use Rattle.conda_base.proofs.LineListLemmas.{names-itself}
@@ -108,9 +108,9 @@ load-cause cache s stores reads fills addr size limit Full later is lie holds si
 -- ---- what a load does
 
 pub record LoadDone (memory : BackingView) (cache after_cache : Tried) (after_reads : Sets) (stores : List (ℕ × ℕ)) (reads : List Line) (fills : Fills) (addr size : ℕ) (look : Look) (value : ℕ) (outside : Option Line) : Type 0 where
-  pub loads : value ≡ number_at (seen (byte_of cache.line_bytes (fills_with fills (copy_of memory) (new_line reads outside))) stores) addr size
-  pub lines : HoldsLines after_cache stores (with_line reads outside) (fills_with fills (copy_of memory) (new_line reads outside))
-  pub read : IsSignatureOf after_reads (with_line reads outside)
+  pub loads : value ≡ number_at (byte_seen (byte_of cache.line_bytes (fills_with fills (copy_of memory) (new_line reads outside))) stores) addr size
+  pub lines : HoldsLines after_cache stores (with_some_line reads outside) (fills_with fills (copy_of memory) (new_line reads outside))
+  pub read : IsSignatureOf after_reads (with_some_line reads outside)
   pub notes : (core : ℕ) → take_notes core (line_at cache.line_bytes addr) look ≡ corefill_notes core (new_line reads outside)
 
 pub load-done : (memory : BackingView) (cache : Tried) (s : Sets) (stores : List (ℕ × ℕ)) (reads : List Line) (fills : Fills) (addr size : ℕ) (look : Look)
@@ -123,7 +123,7 @@ load-done memory cache s stores reads fills addr size (Known known) after_cache 
     go (is_covered stores addr size) refl
   where
     known_value : (names reads (line_at cache.line_bytes addr) || is_covered stores addr size) ≡ true
-        → value ≡ number_at (seen (byte_of cache.line_bytes fills) stores) addr size
+        → value ≡ number_at (byte_seen (byte_of cache.line_bytes fills) stores) addr size
     known_value there = takes.2 ∙ looks.2 ∙ value-seen cache stores reads fills addr size holds (is.whole (line_at cache.line_bytes addr)).room lie there
 
     lines : HoldsLines after_cache stores reads fills
@@ -153,7 +153,7 @@ load-done memory cache s stores reads fills addr size (Known known) after_cache 
             let none : new_line reads (Some (line_at cache.line_bytes addr)) ≡ None = ap (λ b. cond b None (Some (line_at cache.line_bytes addr))) h in
             let same : with_new reads (line_at cache.line_bytes addr) ≡ reads = ap (λ b. cond b reads (reads ++ line_at cache.line_bytes addr ∷ [])) h in
             record {
-              loads = known_value (or_left _ _ h) ∙ ap (λ o. number_at (seen (byte_of cache.line_bytes (fills_with fills (copy_of memory) o)) stores) addr size) (sym none);
+              loads = known_value (or_left _ _ h) ∙ ap (λ o. number_at (byte_seen (byte_of cache.line_bytes (fills_with fills (copy_of memory) o)) stores) addr size) (sym none);
               lines = subst (λ ls. HoldsLines after_cache stores ls (fills_with fills (copy_of memory) (new_line reads (Some (line_at cache.line_bytes addr))))) (sym same)
                   (subst (λ o. HoldsLines after_cache stores reads (fills_with fills (copy_of memory) o)) (sym none) lines);
               read = subst (λ ls. IsSignatureOf after_reads ls) (sym same) read;
@@ -189,7 +189,7 @@ load-done memory cache s stores reads fills addr size Missing after_cache after_
     listed : names (reads ++ line_at cache.line_bytes addr ∷ []) (line_at cache.line_bytes addr) ≡ true
     listed = ap (λ ls. names ls (line_at cache.line_bytes addr)) (sym pushed) ∙ names-itself reads (line_at cache.line_bytes addr)
 
-    loads : value ≡ number_at (seen (byte_of cache.line_bytes (fills_with fills (copy_of memory) (Some (line_at cache.line_bytes addr)))) stores) addr size
+    loads : value ≡ number_at (byte_seen (byte_of cache.line_bytes (fills_with fills (copy_of memory) (Some (line_at cache.line_bytes addr)))) stores) addr size
     loads =
         takes.2
         ∙ ap (λ (t : Tried). value_at (line_known t addr).bytes (line_offset addr t.line_bytes) size) takes.0
@@ -197,7 +197,7 @@ load-done memory cache s stores reads fills addr size Missing after_cache after_
 
     done : LoadDone memory cache after_cache after_reads stores reads fills addr size Missing value (Some (line_at cache.line_bytes addr))
     done = record {
-      loads = loads ∙ ap (λ o. number_at (seen (byte_of cache.line_bytes (fills_with fills (copy_of memory) o)) stores) addr size) (sym some);
+      loads = loads ∙ ap (λ o. number_at (byte_seen (byte_of cache.line_bytes (fills_with fills (copy_of memory) o)) stores) addr size) (sym some);
       lines = subst (λ ls. HoldsLines after_cache stores ls (fills_with fills (copy_of memory) (new_line reads (Some (line_at cache.line_bytes addr))))) (sym pushed)
           (subst (λ o. HoldsLines after_cache stores (reads ++ line_at cache.line_bytes addr ∷ []) (fills_with fills (copy_of memory) o)) (sym some)
           (subst (λ (t : Tried). HoldsLines t stores (reads ++ line_at cache.line_bytes addr ∷ []) (fills_with fills (copy_of memory) (Some (line_at cache.line_bytes addr)))) (sym takes.0) filled));

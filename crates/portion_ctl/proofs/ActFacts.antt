@@ -11,14 +11,14 @@ use Rattle.rv32_hart.specs.declared.act.Planned.{Planned}
 use Rattle.rv32_hart.specs.Code.{CodeView}
 use Rattle.rv32_hart.specs.Act.{after, plan_of, value_of, is_call_access}
 use Rattle.offload_calls.specs.declared.status.CoreStatus.TheVariants as Core_is
-use Rattle.offload_calls.specs.Effects.{loaded, span_of_access, stores_of_access}
+use Rattle.offload_calls.specs.Effects.{span_value, span_of_access, stores_of_access}
 use Rattle.offload_calls.specs.CoreActs.{KernelEffect, core_runs, kernel_effect, kernel_call_effect, kernel_instr_effect}
 use Rattle.line_memory.specs.Backing.{BackingView, copy_of}
 use Rattle.line_memory.specs.Notes.{all_noted}
 use Rattle.traffic_trace.specs.Notes.{Trace}
 use Rattle.try_runs.specs.declared.limits.Limits.{Limits}
 use Rattle.portion_ctl.specs.declared.body.Body.{Body}
-use Rattle.try_runs.specs.Tries.{Try, acted_by, effect_by, seen, stored_lines, try_act, with_effect}
+use Rattle.try_runs.specs.Tries.{Try, acted_by, effect_by, byte_seen, stored_lines, try_act, with_effect}
 use Rattle.try_runs.specs.Fills.{Fills, byte_of, corefill_notes, filled_by, fills_with, next_fill}
 use Rattle.try_runs.specs.Ends.{end_of, is_done, is_out_full, is_trapped}
 use Rattle.bloom_sig.specs.Images.{IsSignatureOf}
@@ -63,7 +63,7 @@ exchanged-performs memory b middle regs t fills p value before noted parts mid c
     let filled : Fills = fills_with fills (copy_of memory) (filled_by n t (Ok p)) in
     let same_n : middle.cache.line_bytes ≡ n = same-lines b middle parts mid (ap (λ (x : Body). x.limits) changes) in
     let effect : effect_by (byte_of n filled) t (Ok p) ≡ kernel_instr_effect t.core.regs p.instr value (stores_of_access value p.access) =
-    effect-plain t.core.regs p (loaded (seen (byte_of n filled) t.stored) (span_of_access p.access)) plain
+    effect-plain t.core.regs p (span_value (byte_seen (byte_of n filled) t.stored) (span_of_access p.access)) plain
     ∙ ap (λ v. kernel_instr_effect t.core.regs p.instr v (stores_of_access v p.access)) (sym ex.loads) in
     let now : Holds (opened_of (record middle { regs = regs })) (with_effect n t (Ok p) (kernel_instr_effect t.core.regs p.instr value (stores_of_access value p.access))) filled =
     record {

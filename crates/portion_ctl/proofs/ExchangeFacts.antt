@@ -21,7 +21,7 @@ use Rattle.nda_cache.specs.declared.cache.Look.TheVariants.{Known, Missing, Full
 use Rattle.portion_ctl.specs.declared.body.Body.{Body}
 use Rattle.try_runs.specs.declared.limits.Limits.{Limits}
 use Rattle.conda_base.specs.LineLists.{line_at}
-use Rattle.try_runs.specs.Tries.{Try, stored_lines, with_line, writes}
+use Rattle.try_runs.specs.Tries.{Try, stored_lines, with_some_line, writes}
 use Rattle.try_runs.specs.Fills.{Fills, fills_with}
 use Rattle.try_runs.specs.Ends.{is_sign_full}
 use Rattle.bloom_sig.specs.Images.{IsSignatureOf}
@@ -71,7 +71,7 @@ load-exchanges memory b t fills addr size l look cache reads value before after 
     let done = load-done memory b.cache b.read_set t.stored t.reads fills addr size look cache reads value a.is lie a.holds.lines a.holds.reads looks at in
     record {
       loads = done.loads;
-      lines = subst (λ ws. HoldsLines cache ws (with_line t.reads (outside_of b.cache.line_bytes t (Access_is.Load addr size signed rd))) (fills_with fills (copy_of memory) (fill_of_access b.cache.line_bytes t (Access_is.Load addr size signed rd)))) (sym (append-nil t.stored)) done.lines;
+      lines = subst (λ ws. HoldsLines cache ws (with_some_line t.reads (outside_of b.cache.line_bytes t (Access_is.Load addr size signed rd))) (fills_with fills (copy_of memory) (fill_of_access b.cache.line_bytes t (Access_is.Load addr size signed rd)))) (sym (append-nil t.stored)) done.lines;
       reads = done.read;
       writes = subst (λ ws. IsSignatureOf b.write_set (stored_lines b.cache.line_bytes ws)) (sym (append-nil t.stored)) a.holds.writes;
       notes = notes ∙ ap (λ k. all_noted before (take_notes b.core k look)) a.line ∙ ap (all_noted before) (done.notes b.core);

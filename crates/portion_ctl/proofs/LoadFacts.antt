@@ -16,7 +16,7 @@ use Rattle.nda_cache.specs.Tried.{Tried, IsTried, IsLine, known_of, filled_from}
 use Rattle.conda_base.specs.Bytes.{handed_out}
 use Rattle.line_memory.specs.Backing.{BackingView, copy_of}
 use Rattle.conda_base.specs.LineLists.{line_at, names}
-use Rattle.try_runs.specs.Tries.{is_covered, is_stored, seen, stored_lines}
+use Rattle.try_runs.specs.Tries.{is_covered, is_stored, byte_seen, stored_lines}
 use Rattle.try_runs.specs.Fills.{Fills, byte_of, fills_with}
 use Rattle.conda_base.proofs.LineListLemmas.{names-push, or_false, same_line-swap}
 use Rattle.try_runs.proofs.CachedFacts.{names-cached, one_of, set_size, set_size-read}
@@ -46,7 +46,7 @@ lies cache addr size is access aligned =
 
 -- the byte that a try sees at a place of a line
 pub seen-in : (n : ℕ) (fills : Fills) (stores : List (ℕ × ℕ)) (l : Line) (k : ℕ) → k < n
-    → seen (byte_of n fills) stores (address_in n l k) ≡ latest stores (address_in n l k) (slice_index (fills l) k)
+    → byte_seen (byte_of n fills) stores (address_in n l k) ≡ latest stores (address_in n l k) (slice_index (fills l) k)
 seen-in n fills stores l k within =
     let line : line_at n (address_in n l k) ≡ l = line_by_number (line_at n (address_in n l k)) l (line_number_of_place l.0 n k within) in
     let place : line_offset (address_in n l k) n ≡ k = line_offset_of_place l.0 n k within in
@@ -83,18 +83,18 @@ stored-covered cache stores reads fills addr size holds lie all k low high =
 pub value-seen : (cache : Tried) (stores : List (ℕ × ℕ)) (reads : List Line) (fills : Fills) (addr size : ℕ)
     → HoldsLines cache stores reads fills → length (line_known cache addr).bytes ≡ 128 → Lies cache.line_bytes addr size
     → (names reads (line_at cache.line_bytes addr) || is_covered stores addr size) ≡ true
-    → value_at (line_known cache addr).bytes (line_offset addr cache.line_bytes) size ≡ number_at (seen (byte_of cache.line_bytes fills) stores) addr size
+    → value_at (line_known cache addr).bytes (line_offset addr cache.line_bytes) size ≡ number_at (byte_seen (byte_of cache.line_bytes fills) stores) addr size
 value-seen cache stores reads fills addr size holds long lie known =
     let n : ℕ = cache.line_bytes in
     let l : Line = line_at n addr in
     let at = lie.at in
     let room = lie.room in
     let small = lie.small in
-    value_at-reader (line_known cache addr).bytes (seen (byte_of n fills) stores) (l.0 * n) (line_offset addr n) size (omega arith)
+    value_at-reader (line_known cache addr).bytes (byte_seen (byte_of n fills) stores) (l.0 * n) (line_offset addr n) size (omega arith)
     (λ k low high.
     let inside : k < n = omega arith in
     (holds.lines l).bytes k inside (here k low high (cases_Bool (names reads l))) ∙ sym (seen-in n fills stores l k inside))
-    ∙ ap (λ a. number_at (seen (byte_of n fills) stores) a size) at
+    ∙ ap (λ a. number_at (byte_seen (byte_of n fills) stores) a size) at
   where
     here : (k : ℕ) → line_offset addr cache.line_bytes ≤ k → k < line_offset addr cache.line_bytes + size
         → (names reads (line_at cache.line_bytes addr) ≡ true) ⊎ (names reads (line_at cache.line_bytes addr) ≡ false)

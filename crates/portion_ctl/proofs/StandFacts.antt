@@ -3,7 +3,7 @@ use Rattle.conda_base.specs.declared.Line.{Line}
 use Rattle.std.proofs.Common.{◌≡◌, ◌≤◌, ℕ, suc, arith, Bool, eqb, [], ◌∷◌, ◌++◌, Some, None, refl, sym, ap, subst, ◌∙◌}
 use Rattle.std.proofs.lemmas.Bool.{false≢true}
 use Rattle.std.proofs.lemmas.Nat.Bits.{bit_at-zero}
-use Rattle.nda_cache.specs.Tried.{empty as no_cache}
+use Rattle.nda_cache.specs.Tried.{no_try_lines}
 use Rattle.std.specs.Prelude.{unwrap_or}
 use Rattle.conda_base.specs.Lines.{IsLineSize}
 use Rattle.rv32_hart.specs.declared.regs.Regs.{Regs}
@@ -22,7 +22,7 @@ use Rattle.try_runs.specs.Ends.{end_of}
 use Rattle.try_runs.specs.Limits.{IsLimits}
 use Rattle.try_runs.proofs.TryFacts.{fills-agree, try_over-agree}
 use Rattle.bloom_sig.specs.Images.{IsImage}
-use Rattle.bloom_sig.specs.Signatures.{Sets, empty as no_lines, inserted, joined}
+use Rattle.bloom_sig.specs.Signatures.{Sets, no_lines, inserted, joined}
 use Rattle.bloom_sig.proofs.ImageLemmas.{empty_is_signed, inserted_is_image, joined_is_image}
 use Rattle.portion_ctl.specs.Views.{OpenView, ReadyView}
 use Rattle.portion_ctl.specs.Stands.{Holds, HoldsLines, IsOpen, StandsAlike, StandsFor}
@@ -111,7 +111,7 @@ act-refused code memory b new o p cause before after view acts =
 -- ---- an opening
 
 -- an empty cache has the lines of no try
-empty-lines : (n sets ways : ℕ) (fills : Fills) → HoldsLines (no_cache n sets ways) [] [] fills
+empty-lines : (n sets ways : ℕ) (fills : Fills) → HoldsLines (no_try_lines n sets ways) [] [] fills
 empty-lines n sets ways fills = record {
   lines = λ l. record {
     filled = refl;

@@ -10,7 +10,7 @@ use Rattle.conda_base.specs.declared.Mesi.{Mesi}
 use Rattle.line_memory.specs.Access.{after_flush}
 use Rattle.line_memory.specs.Backing.{BackingView, IsBacking, IsFirstDirty, dirty_from, flushed, shape_of}
 use Rattle.line_memory.specs.Notes.{all_noted, back_notes, flush_notes, flushes_notes}
-use Rattle.line_memory.specs.Tags.{Tag, Tags, Shape, set_of, cleaned_state, cleaned_line}
+use Rattle.line_memory.specs.Tags.{Tag, Tags, Shape, set_number, cleaned_state, cleaned_line}
 use Rattle.line_memory.proofs.WalkLemmas.{dirty_after_flush, each_same}
 use Rattle.traffic_trace.specs.declared.note.Note.{Note}
 use Rattle.traffic_trace.specs.Notes.{Trace, noted}
@@ -58,7 +58,7 @@ lookup-cleaned l k (tag ∷ tags) apart = go (eqb tag.0.0 l.0) refl (lookup-clea
 
 flush_notes-apart : (shape : Shape) (tags : Tags) (l k : Line) → l.0 ≢ k.0 → flush_notes shape (after_flush tags l) k ≡ flush_notes shape tags k
 flush_notes-apart shape tags l k apart =
-    each_same shape.holders _ _ (λ h within. ap (λ (state : Option Mesi). back_notes k h state) (lookup-cleaned l k (tags h (set_of shape k)) apart))
+    each_same shape.holders _ _ (λ h within. ap (λ (state : Option Mesi). back_notes k h state) (lookup-cleaned l k (tags h (set_number shape k)) apart))
 
 flushes_notes-apart : (shape : Shape) (tags : Tags) (l : Line) (lines : List Line)
     → ((j : ℕ) (d : Line) → j < length lines → l.0 ≢ (get_or lines j d).0)

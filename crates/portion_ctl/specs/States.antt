@@ -3,8 +3,8 @@ use Rattle.std.specs.Prelude.{ℕ, suc, ◌≡◌, ◌-◌, ◌==◌, ◌++◌, 
 use Rattle.conda_base.specs.declared.Line.{Line}
 use Rattle.rv32_hart.specs.Code.{CodeView}
 use Rattle.offload_calls.specs.declared.status.CoreStatus.TheVariants.{Run}
-use Rattle.nda_cache.specs.Tried.{empty as no_cache}
-use Rattle.bloom_sig.specs.Signatures.{Sets, Meet, is_member, inserted, joined, empty as no_lines}
+use Rattle.nda_cache.specs.Tried.{no_try_lines}
+use Rattle.bloom_sig.specs.Signatures.{Sets, Meet, is_member, inserted, joined, no_lines}
 use Rattle.bloom_sig.specs.Images.{IsImage}
 use Rattle.line_memory.specs.Backing.{BackingView, IsBacking, copy_of, dirty_in, flushed, shape_of}
 use Rattle.line_memory.specs.Notes.{all_noted, flush_notes, flushes_notes}
@@ -41,7 +41,7 @@ opened_from s locked memory = record {
   regs = s.regs;
   status = Run;
   acts = 0;
-  cache = no_cache s.limits.line_bytes s.limits.core_sets s.limits.core_ways;
+  cache = no_try_lines s.limits.line_bytes s.limits.core_sets s.limits.core_ways;
   read_set = no_lines s.limits.sig_bits;
   write_set = no_lines s.limits.sig_bits;
   foreign_set = all_inserted (no_lines s.limits.sig_bits) (foreign_lines locked memory);

@@ -166,7 +166,7 @@ impl Ready {
     ghost use Rattle.std.specs.Prelude.{◌≡◌, IfOk};
     ghost use Rattle.rv32_hart.specs.Regs.{start_regs};
     ghost use Rattle.rv32_hart.specs.Code.{CodeView};
-    ghost use Rattle.bloom_sig.specs.Signatures.{empty as no_lines};
+    ghost use Rattle.bloom_sig.specs.Signatures.{no_lines};
     ghost use Rattle.offload_calls.specs.State.{launched_core};
     ghost use Rattle.line_memory.specs.Backing.{IsBacking, shape_of};
     ghost use Rattle.line_memory.specs.Notes.{all_noted, flushes_notes};

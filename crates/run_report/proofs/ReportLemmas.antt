@@ -18,7 +18,7 @@ use Rattle.std.proofs.lemmas.Grind.{common_steps}
 use Rattle.conda_base.specs.Lines.{IsLineOf}
 use Rattle.conda_base.proofs.LineLemmas.{line_bytes_in_memory, line_size_cases}
 use Rattle.conda_base.specs.Bytes.{handed_out}
-use Rattle.run_report.specs.View.{View, IsShown, line_of}
+use Rattle.run_report.specs.View.{View, IsShown, line_bytes_at}
 use Rattle.run_report.specs.Texts.{changed_line_text, texts_below, register_text, registers_text, hart_line_text, core_line_text, hart_text, core_text, harts_text, cores_text, changed_text, changes_text, text_if_some, tag_text, slot_text, set_text, cache_text, caches_text, note_text, note_at_text, notes_text}
 use Rattle.run_report.specs.Writes.{Wrote, WrotePart}
 
@@ -174,7 +174,7 @@ lines_bound v kept =
     grind arith
 
 -- a line of memory has as many bytes as a line, now and as loaded
-length_line : (v : View) → IsShown v → (bytes : List ℕ) → length bytes ≡ length v.memory → (l : ℕ) → IsLineOf v.base (length v.memory) v.line_bytes l → length (line_of v bytes l) ≡ v.line_bytes
+length_line : (v : View) → IsShown v → (bytes : List ℕ) → length bytes ≡ length v.memory → (l : ℕ) → IsLineOf v.base (length v.memory) v.line_bytes l → length (line_bytes_at v bytes l) ≡ v.line_bytes
 length_line v kept bytes same l line =
     let within = line_bytes_in_memory v.base (length v.memory) v.line_bytes l kept.size kept.whole_base kept.whole_bytes line in
     let low = within.0 in
@@ -182,34 +182,34 @@ length_line v kept bytes same l line =
     grind (arith, nat_tests, common_steps)
 
 -- the front of a buffer that a line was handed out to
-pub front_of : (v : View) → IsShown v → (bytes : List ℕ) → length bytes ≡ length v.memory → (l : ℕ) → IsLineOf v.base (length v.memory) v.line_bytes l → (buffer : List ℕ) → buffer ≡ handed_out (line_of v bytes l) → (n : ℕ) → n ≡ v.line_bytes → take n buffer ≡ line_of v bytes l
+pub front_of : (v : View) → IsShown v → (bytes : List ℕ) → length bytes ≡ length v.memory → (l : ℕ) → IsLineOf v.base (length v.memory) v.line_bytes l → (buffer : List ℕ) → buffer ≡ handed_out (line_bytes_at v bytes l) → (n : ℕ) → n ≡ v.line_bytes → take n buffer ≡ line_bytes_at v bytes l
 front_of v kept bytes same l line buffer is n size =
     let long = length_line v kept bytes same l line in
-    ap (take n) is ∙ ap (λ k. take k (handed_out (line_of v bytes l))) (size ∙ sym long) ∙ take_front (line_of v bytes l) (replicate (128 - length (line_of v bytes l)) 0)
+    ap (take n) is ∙ ap (λ k. take k (handed_out (line_bytes_at v bytes l))) (size ∙ sym long) ∙ take_front (line_bytes_at v bytes l) (replicate (128 - length (line_bytes_at v bytes l)) 0)
   where
     take_front : (xs ys : List ℕ) → take (length xs) (xs ++ ys) ≡ xs
     take_front xs ys = grind (arith, common_steps)
 
 -- whether line l is shown
-pub changed_none : (v : View) (l : ℕ) → pointwise nat_eq (line_of v v.memory l) (line_of v v.loaded l) ≡ true → changed_text v l ≡ []
+pub changed_none : (v : View) (l : ℕ) → pointwise nat_eq (line_bytes_at v v.memory l) (line_bytes_at v v.loaded l) ≡ true → changed_text v l ≡ []
 unfolding changed_text
 changed_none v l same = rw same refl
 
-pub changed_some : (v : View) (l : ℕ) → pointwise nat_eq (line_of v v.memory l) (line_of v v.loaded l) ≡ false → changed_text v l ≡ changed_line_text (l * v.line_bytes) (line_of v v.memory l)
+pub changed_some : (v : View) (l : ℕ) → pointwise nat_eq (line_bytes_at v v.memory l) (line_bytes_at v v.loaded l) ≡ false → changed_text v l ≡ changed_line_text (l * v.line_bytes) (line_bytes_at v v.memory l)
 unfolding changed_text
 changed_some v l same = rw same refl
 
 -- the two buffers' fronts compare as the line's bytes do
-pub fronts_compare : (v : View) → IsShown v → (l : ℕ) → IsLineOf v.base (length v.memory) v.line_bytes l → (now loaded : List ℕ) → now ≡ handed_out (line_of v v.memory l) → loaded ≡ handed_out (line_of v v.loaded l) → (n : ℕ) → n ≡ v.line_bytes → (same : Bool) → same ≡ pointwise nat_eq (take n now) (take n loaded) → pointwise nat_eq (line_of v v.memory l) (line_of v v.loaded l) ≡ same
+pub fronts_compare : (v : View) → IsShown v → (l : ℕ) → IsLineOf v.base (length v.memory) v.line_bytes l → (now loaded : List ℕ) → now ≡ handed_out (line_bytes_at v v.memory l) → loaded ≡ handed_out (line_bytes_at v v.loaded l) → (n : ℕ) → n ≡ v.line_bytes → (same : Bool) → same ≡ pointwise nat_eq (take n now) (take n loaded) → pointwise nat_eq (line_bytes_at v v.memory l) (line_bytes_at v v.loaded l) ≡ same
 fronts_compare v kept l line now loaded is_now is_loaded n size same is =
     sym (is
     ∙ ap (λ x. pointwise nat_eq x (take n loaded)) (front_of v kept v.memory refl l line now is_now n size)
-    ∙ ap (λ y. pointwise nat_eq (line_of v v.memory l) y) (front_of v kept v.loaded kept.same l line loaded is_loaded n size))
+    ∙ ap (λ y. pointwise nat_eq (line_bytes_at v v.memory l) y) (front_of v kept v.loaded kept.same l line loaded is_loaded n size))
 
 -- the text of a line that changed
-pub change_is : (v : View) → IsShown v → (l : ℕ) → IsLineOf v.base (length v.memory) v.line_bytes l → (now : List ℕ) → now ≡ handed_out (line_of v v.memory l) → (n : ℕ) → n ≡ v.line_bytes → pointwise nat_eq (line_of v v.memory l) (line_of v v.loaded l) ≡ false → (text : List ℕ) → text ≡ changed_line_text (l * n) (take n now) → text ≡ changed_text v l
+pub change_is : (v : View) → IsShown v → (l : ℕ) → IsLineOf v.base (length v.memory) v.line_bytes l → (now : List ℕ) → now ≡ handed_out (line_bytes_at v v.memory l) → (n : ℕ) → n ≡ v.line_bytes → pointwise nat_eq (line_bytes_at v v.memory l) (line_bytes_at v v.loaded l) ≡ false → (text : List ℕ) → text ≡ changed_line_text (l * n) (take n now) → text ≡ changed_text v l
 change_is v kept l line now is_now n size differs text is =
     is
     ∙ ap (λ bytes. changed_line_text (l * n) bytes) (front_of v kept v.memory refl l line now is_now n size)
-    ∙ ap (λ k. changed_line_text (l * k) (line_of v v.memory l)) size
+    ∙ ap (λ k. changed_line_text (l * k) (line_bytes_at v v.memory l)) size
     ∙ sym (changed_some v l differs)

@@ -16,7 +16,7 @@ use Rattle.offload_calls.specs.declared.status.HartStatus.{HartStatus}
 use Rattle.offload_calls.specs.declared.status.HartStatus.TheVariants as Hart_is
 use Rattle.offload_calls.specs.declared.status.CoreStatus.{CoreStatus}
 use Rattle.offload_calls.specs.declared.status.CoreStatus.TheVariants as Core_is
-use Rattle.run_report.specs.View.{View, line_of}
+use Rattle.run_report.specs.View.{View, line_bytes_at}
 
 -- a line feed
 abbrev pub feed : List ℕ
@@ -86,9 +86,9 @@ changed_line_text addr bytes = codes "line " ++ hex_word addr ++ codes " " ++ fl
 -- line l of memory is shown where its bytes aren't those that were loaded
 unfoldable pub changed_text : View → ℕ → List ℕ
 changed_text v l =
-    if pointwise nat_eq (line_of v v.memory l) (line_of v v.loaded l)
+    if pointwise nat_eq (line_bytes_at v v.memory l) (line_bytes_at v v.loaded l)
     then []
-    else changed_line_text (l * v.line_bytes) (line_of v v.memory l)
+    else changed_line_text (l * v.line_bytes) (line_bytes_at v v.memory l)
 
 -- all lines of memory, ascending
 unfoldable pub changes_text : View → List ℕ

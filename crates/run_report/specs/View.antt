@@ -40,5 +40,5 @@ pub record IsShown (v : View) : Type 0 where
   pub noted : All (λ note. IsAddressed v.line_bytes note.line) v.trace.notes
 
 -- the bytes of line l, in one of the two lists
-abbrev pub line_of : View → List ℕ → ℕ → List ℕ
-line_of v bytes l = bytes_of_line v.base v.line_bytes bytes l
+abbrev pub line_bytes_at : View → List ℕ → ℕ → List ℕ
+line_bytes_at v bytes l = bytes_of_line v.base v.line_bytes bytes l

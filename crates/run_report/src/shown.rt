@@ -2,7 +2,7 @@
 ghost use Rattle.std.specs.Prelude.{◌≡◌, ◌<◌, ◌≤◌, ◌/◌, length, slice_get};
 ghost use Rattle.conda_base.specs.Lines.{IsLineSize, IsLineOf, line_number};
 ghost use Rattle.conda_base.specs.Bytes.{handed_out};
-ghost use Rattle.run_report.specs.View.{View, IsShown, line_of};
+ghost use Rattle.run_report.specs.View.{View, IsShown, line_bytes_at};
 
 use conda_base::{Line, Mesi};
 use offload_calls::{CoreStatus, HartStatus};
@@ -66,11 +66,11 @@ pub trait Shown {
     fn line(&self, l: Line, out: &mut [u8; 128])
         requires { IsLineOf (shown self.now).base (length (shown self.now).memory)
             (shown self.now).line_bytes l.0 }
-        ensures { out.new ≡ handed_out (line_of (shown self.now) (shown self.now).memory l.0) };
+        ensures { out.new ≡ handed_out (line_bytes_at (shown self.now) (shown self.now).memory l.0) };
 
     /// Hands out the bytes of a line as they were loaded, and zeros after them.
     fn loaded(&self, l: Line, out: &mut [u8; 128])
         requires { IsLineOf (shown self.now).base (length (shown self.now).memory)
             (shown self.now).line_bytes l.0 }
-        ensures { out.new ≡ handed_out (line_of (shown self.now) (shown self.now).loaded l.0) };
+        ensures { out.new ≡ handed_out (line_bytes_at (shown self.now) (shown self.now).loaded l.0) };
 }

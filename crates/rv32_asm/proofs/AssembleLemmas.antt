@@ -5,15 +5,15 @@ use Rattle.std.specs.Prelude.{Option, Some, None, if◌then◌else◌}
 use Rattle.std.proofs.lemmas.Bool.Decides.{nat_tests}
 use Rattle.rv32_asm.specs.declared.place.Place.{Place}
 use Rattle.rv32_asm.specs.declared.place.BadLine.{BadLine}
-use Rattle.rv32_asm.specs.Pieces.{lines_of}
+use Rattle.rv32_asm.specs.Pieces.{text_lines}
 use Rattle.rv32_asm.specs.Grammar.{LineSaid, Said}
 use Rattle.rv32_asm.specs.Assembled.{Source, IsSource, said_of, next_place, why_of, is_formless, is_out_of_range, bad_or, bad_from, line_words, words_from}
 use Rattle.rv32_asm.specs.Sources.{source_in}
 use Rattle.rv32_asm.proofs.GrammarLemmas.{lines_say}
 
-pub source_says : (text : List ℕ) → IsSource (lines_of text) (source_in text)
+pub source_says : (text : List ℕ) → IsSource (text_lines text) (source_in text)
 unfolding source_in
-source_says text = lines_say (lines_of text)
+source_says text = lines_say (text_lines text)
 
 pub bad_step : (all : Source) (p next : Place) (said : Option LineSaid) (source later : Source) (whole : Option BadLine)
     → source ≡ said ∷ later → why_of all p said ≡ None → next ≡ next_place p said → bad_from all p source ≡ whole → bad_from all next later ≡ whole

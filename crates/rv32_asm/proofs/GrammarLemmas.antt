@@ -9,7 +9,7 @@ use Rattle.rv32_asm.specs.Assembled.{IsSource, said_of as statement_of}
 use Rattle.std.specs.Prelude.{map}
 use Rattle.rv32_asm.specs.Pieces.{pieces, without_comment}
 use Rattle.rv32_asm.specs.Grammar.{is_name, Said, LineSaid, IsSaid, label_pieces, statement_pieces, Spells, Says}
-use Rattle.rv32_asm.specs.Reading.{Pieces, said_by, statement_in, is_label, name_in, pieces_in, line_in}
+use Rattle.rv32_asm.specs.Reading.{Pieces, statement_by, statement_in, is_label, label_name, pieces_in, line_in}
 use Rattle.rv32_asm.proofs.RegisterLemmas.{some_is, and_true}
 use Rattle.rv32_asm.proofs.OperandLemmas.{mapped}
 use Rattle.rv32_asm.proofs.LineLemmas.{first_of, rest_of, first_rest, first_no_label, pick, said_by_is, said_by_again}
@@ -21,7 +21,7 @@ pub record IsMaybe (ps : Pieces) (s : Option Said) : Type 0 where
 statement_in_is : (ps : Pieces) (s : Option Said) → statement_in ps ≡ Some s → IsMaybe ps s
 unfolding statement_in
 statement_in_is [] s h = subst (IsMaybe []) (some_is None s h) (record { parts = refl; fits = tt })
-statement_in_is (first ∷ rest) s h = mapped Some (said_by first rest) h (λ said read same.
+statement_in_is (first ∷ rest) s h = mapped Some (statement_by first rest) h (λ said read same.
     let is = said_by_is first rest said read in
     subst (IsMaybe (first ∷ rest)) same (record { parts = is.parts; fits = is.fits }))
 
@@ -34,7 +34,7 @@ last_is : (b : ℕ) (bs : List ℕ) → take (length bs) (b ∷ bs) ++ get_or (b
 last_is b [] = refl
 last_is b (c ∷ cs) = ap (λ q. b ∷ q) (last_is c cs)
 
-is_label_is : (piece : List ℕ) → is_label piece ≡ true → piece ≡ name_in piece ++ codes ":"
+is_label_is : (piece : List ℕ) → is_label piece ≡ true → piece ≡ label_name piece ++ codes ":"
 is_label_is [] h = absurd (cc)
 is_label_is (b ∷ bs) h =
     let both = and_true (nat_le 1 (length (b ∷ bs))) (get_or (b ∷ bs) (length (b ∷ bs) - 1) 0 == 58) h in
@@ -54,7 +54,7 @@ label_again name =
     let some : nat_le 1 (length (name ++ codes ":")) ≡ true = grind (arith, nat_tests, length-append name (codes ":")) in
     rw some (rw (name_len name) (rw (colon_at name) refl))
 
-name_again : (name : List ℕ) → name_in (name ++ codes ":") ≡ name
+name_again : (name : List ℕ) → label_name (name ++ codes ":") ≡ name
 name_again name = rw (name_len name) (take_at name (codes ":") (length name) refl)
 
 -- a line by its pieces
@@ -68,11 +68,11 @@ unfolding pieces_in
 pieces_in_is [] l h = subst (IsLine []) (some_is (record { label = None; statement = None }) l h) (record { label = tt; statement = tt; text = refl })
 pieces_in_is (first ∷ rest) l h =
     pick (is_label first) h
-    (λ is x. pick (is_name (name_in first)) x
+    (λ is x. pick (is_name (label_name first)) x
     (λ named y. mapped _ (statement_in rest) y (λ s read same.
     let m = statement_in_is rest s read in
     subst (IsLine (first ∷ rest)) same
-    (record { label = named; statement = m.fits; text = ap (λ q. q ∷ rest) (is_label_is first is) ∙ ap (λ q. (name_in first ++ codes ":") ∷ q) m.parts })))
+    (record { label = named; statement = m.fits; text = ap (λ q. q ∷ rest) (is_label_is first is) ∙ ap (λ q. (label_name first ++ codes ":") ∷ q) m.parts })))
     (λ _ y. absurd (cc)))
     (λ _ x. mapped _ (statement_in (first ∷ rest)) x (λ s read same.
     let m = statement_in_is (first ∷ rest) s read in

@@ -13,10 +13,10 @@ use Rattle.rv32_decode.specs.Ranges.{IsSigned, IsOffset, IsUpper, ImmFits, Field
 use Rattle.rv32_dis.specs.declared.mnemonic.Mnemonic.{Mnemonic}
 use Rattle.rv32_dis.specs.declared.mnemonic.Mnemonic.TheVariants as Is
 use Rattle.rv32_dis.specs.Mnemonics.{name_of}
-use Rattle.rv32_dis.specs.Texts.{register, signed, pair, triple, addressed, atomic, instr_pieces, number_of, spaced, instr_text}
+use Rattle.rv32_dis.specs.Texts.{register, signed_text, pair, triple, addressed, atomic, instr_pieces, immediate_text, spaced, instr_text}
 use Rattle.rv32_asm.specs.Pieces.{pieces, without_comment, is_blank, is_mark}
 use Rattle.rv32_asm.specs.Grammar.{with_imm, Said, Does, IsSaid, Spells}
-use Rattle.rv32_asm.specs.Assembled.{number_in, is_in_range, in_signed, in_unsigned, is_even, imm_by, complement}
+use Rattle.rv32_asm.specs.Assembled.{written_number, is_in_range, in_signed, in_unsigned, is_even, imm_by, complement}
 use Rattle.rv32_asm.proofs.RegisterLemmas.{and_true}
 use Rattle.rv32_asm.proofs.OperandLemmas.{signed_0, offset_0, upper_0, imm_0}
 use Rattle.rv32_asm.proofs.NumberLemmas.{decimal_digits, decimal_number, signed_number, complement_integer}
@@ -27,7 +27,7 @@ decimal_word n h =
     let some : nat_le 1 (length (decimal n)) ≡ true = grind (arith, nat_tests, decimal_nonempty n h) in
     rw some (digits_parts (decimal n) (decimal_digits n h))
 
-pub signed_word : (word : ℕ) → word < 2 ^ 32 → is_word (signed word) ≡ true
+pub signed_word : (word : ℕ) → word < 2 ^ 32 → is_word (signed_text word) ≡ true
 signed_word word h = go (nat_lt word (2 ^ 31)) refl
   where
     go : (b : Bool) → nat_lt word (2 ^ 31) ≡ b → is_word (if b then decimal word else codes "-" ++ decimal (2 ^ 32 - word)) ≡ true
@@ -54,16 +54,16 @@ imm_word Srai imm h = omega arith
 upper_small : (imm : ℕ) → IsUpper imm → imm / 4096 < 2 ^ 64
 upper_small imm h = let w = h.word in omega arith
 
-pub instr_text_pieces : (i : Instr) → FieldsFit i → pieces (instr_text i) ≡ instr_pieces i (number_of i)
+pub instr_text_pieces : (i : Instr) → FieldsFit i → pieces (instr_text i) ≡ instr_pieces i (immediate_text i)
 unfolding instr_text
 instr_text_pieces (Lui rd imm) fits = whole Is.Lui _ _ (pair_pieces rd (decimal (imm / 4096)) fits.0 (decimal_word (imm / 4096) (upper_small imm fits.1)))
 instr_text_pieces (Auipc rd imm) fits = whole Is.Auipc _ _ (pair_pieces rd (decimal (imm / 4096)) fits.0 (decimal_word (imm / 4096) (upper_small imm fits.1)))
-instr_text_pieces (Jal rd imm) fits = whole Is.Jal _ _ (pair_pieces rd (signed imm) fits.0 (signed_word imm fits.1.signed.word))
-instr_text_pieces (Jalr rd rs1 imm) fits = whole Is.Jalr _ _ (addressed_pieces rd (signed imm) rs1 fits.0 (signed_word imm fits.2.word) fits.1)
-instr_text_pieces (Branch op rs1 rs2 imm) fits = whole (Is.Branch op) _ _ (triple_pieces rs1 rs2 (signed imm) fits.0 fits.1 (signed_word imm fits.2.signed.word))
-instr_text_pieces (Load op rd rs1 imm) fits = whole (Is.Load op) _ _ (addressed_pieces rd (signed imm) rs1 fits.0 (signed_word imm fits.2.word) fits.1)
-instr_text_pieces (Store op rs1 rs2 imm) fits = whole (Is.Store op) _ _ (addressed_pieces rs2 (signed imm) rs1 fits.1 (signed_word imm fits.2.word) fits.0)
-instr_text_pieces (Imm op rd rs1 imm) fits = whole (Is.Imm op) _ _ (triple_pieces rd rs1 (signed imm) fits.0 fits.1 (signed_word imm (imm_word op imm fits.2)))
+instr_text_pieces (Jal rd imm) fits = whole Is.Jal _ _ (pair_pieces rd (signed_text imm) fits.0 (signed_word imm fits.1.signed.word))
+instr_text_pieces (Jalr rd rs1 imm) fits = whole Is.Jalr _ _ (addressed_pieces rd (signed_text imm) rs1 fits.0 (signed_word imm fits.2.word) fits.1)
+instr_text_pieces (Branch op rs1 rs2 imm) fits = whole (Is.Branch op) _ _ (triple_pieces rs1 rs2 (signed_text imm) fits.0 fits.1 (signed_word imm fits.2.signed.word))
+instr_text_pieces (Load op rd rs1 imm) fits = whole (Is.Load op) _ _ (addressed_pieces rd (signed_text imm) rs1 fits.0 (signed_word imm fits.2.word) fits.1)
+instr_text_pieces (Store op rs1 rs2 imm) fits = whole (Is.Store op) _ _ (addressed_pieces rs2 (signed_text imm) rs1 fits.1 (signed_word imm fits.2.word) fits.0)
+instr_text_pieces (Imm op rd rs1 imm) fits = whole (Is.Imm op) _ _ (triple_pieces rd rs1 (signed_text imm) fits.0 fits.1 (signed_word imm (imm_word op imm fits.2)))
 instr_text_pieces (Reg op rd rs1 rs2) fits = whole (Is.Reg op) _ _ (triple_pieces rd rs1 (register rs2) fits.0 fits.1 (register_word rs2 fits.2))
 instr_text_pieces (Amo op aq rl rd rs1 rs2) fits = whole (Is.Amo op aq rl) _ _ (atomic_pieces rd rs2 rs1 fits.0 fits.2 fits.1)
 instr_text_pieces Fence fits = refl
@@ -115,12 +115,12 @@ pub instr_text_plain : (i : Instr) → FieldsFit i → IsPlainText (instr_text i
 unfolding instr_text
 instr_text_plain (Lui rd imm) fits = whole_plain Is.Lui (concat (pair rd (decimal (imm / 4096)))) (pair_plain rd (decimal (imm / 4096)) fits.0 (decimal_word (imm / 4096) (upper_small imm fits.1)))
 instr_text_plain (Auipc rd imm) fits = whole_plain Is.Auipc (concat (pair rd (decimal (imm / 4096)))) (pair_plain rd (decimal (imm / 4096)) fits.0 (decimal_word (imm / 4096) (upper_small imm fits.1)))
-instr_text_plain (Jal rd imm) fits = whole_plain Is.Jal (concat (pair rd (signed imm))) (pair_plain rd (signed imm) fits.0 (signed_word imm fits.1.signed.word))
-instr_text_plain (Jalr rd rs1 imm) fits = whole_plain Is.Jalr (concat (addressed rd (signed imm) rs1)) (addressed_plain rd (signed imm) rs1 fits.0 (signed_word imm fits.2.word) fits.1)
-instr_text_plain (Branch op rs1 rs2 imm) fits = whole_plain (Is.Branch op) (concat (triple rs1 rs2 (signed imm))) (triple_plain rs1 rs2 (signed imm) fits.0 fits.1 (signed_word imm fits.2.signed.word))
-instr_text_plain (Load op rd rs1 imm) fits = whole_plain (Is.Load op) (concat (addressed rd (signed imm) rs1)) (addressed_plain rd (signed imm) rs1 fits.0 (signed_word imm fits.2.word) fits.1)
-instr_text_plain (Store op rs1 rs2 imm) fits = whole_plain (Is.Store op) (concat (addressed rs2 (signed imm) rs1)) (addressed_plain rs2 (signed imm) rs1 fits.1 (signed_word imm fits.2.word) fits.0)
-instr_text_plain (Imm op rd rs1 imm) fits = whole_plain (Is.Imm op) (concat (triple rd rs1 (signed imm))) (triple_plain rd rs1 (signed imm) fits.0 fits.1 (signed_word imm (imm_word op imm fits.2)))
+instr_text_plain (Jal rd imm) fits = whole_plain Is.Jal (concat (pair rd (signed_text imm))) (pair_plain rd (signed_text imm) fits.0 (signed_word imm fits.1.signed.word))
+instr_text_plain (Jalr rd rs1 imm) fits = whole_plain Is.Jalr (concat (addressed rd (signed_text imm) rs1)) (addressed_plain rd (signed_text imm) rs1 fits.0 (signed_word imm fits.2.word) fits.1)
+instr_text_plain (Branch op rs1 rs2 imm) fits = whole_plain (Is.Branch op) (concat (triple rs1 rs2 (signed_text imm))) (triple_plain rs1 rs2 (signed_text imm) fits.0 fits.1 (signed_word imm fits.2.signed.word))
+instr_text_plain (Load op rd rs1 imm) fits = whole_plain (Is.Load op) (concat (addressed rd (signed_text imm) rs1)) (addressed_plain rd (signed_text imm) rs1 fits.0 (signed_word imm fits.2.word) fits.1)
+instr_text_plain (Store op rs1 rs2 imm) fits = whole_plain (Is.Store op) (concat (addressed rs2 (signed_text imm) rs1)) (addressed_plain rs2 (signed_text imm) rs1 fits.1 (signed_word imm fits.2.word) fits.0)
+instr_text_plain (Imm op rd rs1 imm) fits = whole_plain (Is.Imm op) (concat (triple rd rs1 (signed_text imm))) (triple_plain rd rs1 (signed_text imm) fits.0 fits.1 (signed_word imm (imm_word op imm fits.2)))
 instr_text_plain (Reg op rd rs1 rs2) fits = whole_plain (Is.Reg op) (concat (triple rd rs1 (register rs2))) (triple_plain rd rs1 (register rs2) fits.0 fits.1 (register_word rs2 fits.2))
 instr_text_plain (Amo op aq rl rd rs1 rs2) fits = whole_plain (Is.Amo op aq rl) (concat (atomic rd rs2 rs1)) (atomic_plain rd rs2 rs1 fits.0 fits.2 fits.1)
 instr_text_plain Fence fits = refl
@@ -156,9 +156,9 @@ plain_kept (b ∷ t) h =
 
 -- the statement that the text is
 abbrev pub said_by_text : Instr → Said
-said_by_text i = Does (with_imm i 0) (number_of i)
+said_by_text i = Does (with_imm i 0) (immediate_text i)
 
-said_pieces_are : (i : Instr) → instr_pieces (with_imm i 0) (number_of i) ≡ instr_pieces i (number_of i)
+said_pieces_are : (i : Instr) → instr_pieces (with_imm i 0) (immediate_text i) ≡ instr_pieces i (immediate_text i)
 said_pieces_are (Lui rd imm) = refl
 said_pieces_are (Auipc rd imm) = refl
 said_pieces_are (Jal rd imm) = refl
@@ -205,10 +205,10 @@ instr_text_spells i fits =
 
 -- and its number is that of its immediate
 pub record NumberBack (i : Instr) : Type 0 where
-  pub in_range : is_in_range (with_imm i 0) (number_in (number_of i)) ≡ true
-  pub back : with_imm (with_imm i 0) (imm_by (with_imm i 0) (number_in (number_of i))) ≡ i
+  pub in_range : is_in_range (with_imm i 0) (written_number (immediate_text i)) ≡ true
+  pub back : with_imm (with_imm i 0) (imm_by (with_imm i 0) (written_number (immediate_text i))) ≡ i
 
-signed_range : (sign imm : ℕ) → IsSigned sign imm → sign < 2 ^ 31 → in_signed sign (number_in (signed imm)) ≡ true
+signed_range : (sign imm : ℕ) → IsSigned sign imm → sign < 2 ^ 31 → in_signed sign (written_number (signed_text imm)) ≡ true
 signed_range sign imm h small = rw ((signed_number imm h.word).1) (go (nat_lt imm (2 ^ 31)) refl)
   where
     go : (b : Bool) → nat_lt imm (2 ^ 31) ≡ b → in_signed sign (if b then pos imm else negsuc (2 ^ 32 - imm - 1)) ≡ true
@@ -223,7 +223,7 @@ signed_range sign imm h small = rw ((signed_number imm h.word).1) (go (nat_lt im
         let fits : 2 ^ 32 - imm - 1 < sign = omega arith in
         grind (arith, nat_tests)
 
-even_range : (imm : ℕ) → imm < 2 ^ 32 → imm % 2 ≡ 0 → is_even (number_in (signed imm)) ≡ true
+even_range : (imm : ℕ) → imm < 2 ^ 32 → imm % 2 ≡ 0 → is_even (written_number (signed_text imm)) ≡ true
 even_range imm w even = rw ((signed_number imm w).1) (go (nat_lt imm (2 ^ 31)) refl)
   where
     go : (b : Bool) → nat_lt imm (2 ^ 31) ≡ b → is_even (if b then pos imm else negsuc (2 ^ 32 - imm - 1)) ≡ true
@@ -232,29 +232,29 @@ even_range imm w even = rw ((signed_number imm w).1) (go (nat_lt imm (2 ^ 31)) r
         let odd : (2 ^ 32 - imm - 1) % 2 ≡ 1 = omega arith in
         rw odd refl
 
-offset_range : (sign imm : ℕ) → IsOffset sign imm → sign < 2 ^ 31 → (in_signed sign (number_in (signed imm)) && is_even (number_in (signed imm))) ≡ true
+offset_range : (sign imm : ℕ) → IsOffset sign imm → sign < 2 ^ 31 → (in_signed sign (written_number (signed_text imm)) && is_even (written_number (signed_text imm))) ≡ true
 offset_range sign imm h small = rw (signed_range sign imm h.signed small) (even_range imm h.signed.word h.even)
 
-number_back : (imm : ℕ) → imm < 2 ^ 32 → complement (number_in (signed imm)) ≡ imm
+number_back : (imm : ℕ) → imm < 2 ^ 32 → complement (written_number (signed_text imm)) ≡ imm
 number_back imm h = ap complement ((signed_number imm h).1) ∙ complement_integer imm h
 
-upper_back : (imm : ℕ) → IsUpper imm → complement (number_in (decimal (imm / 4096))) * 4096 ≡ imm
+upper_back : (imm : ℕ) → IsUpper imm → complement (written_number (decimal (imm / 4096))) * 4096 ≡ imm
 upper_back imm h =
     let whole = h.whole in
     ap (λ z. complement z * 4096) ((decimal_number (imm / 4096) (upper_small imm h)).1) ∙ omega arith
 
-upper_range : (imm : ℕ) → IsUpper imm → in_unsigned 1048576 (number_in (decimal (imm / 4096))) ≡ true
+upper_range : (imm : ℕ) → IsUpper imm → in_unsigned 1048576 (written_number (decimal (imm / 4096))) ≡ true
 upper_range imm h =
     let w = h.word in
     let fits : imm / 4096 < 1048576 = omega arith in
     rw ((decimal_number (imm / 4096) (upper_small imm h)).1) (grind (arith, nat_tests))
 
-shift_range : (imm : ℕ) → imm < 32 → in_unsigned 32 (number_in (signed imm)) ≡ true
+shift_range : (imm : ℕ) → imm < 32 → in_unsigned 32 (written_number (signed_text imm)) ≡ true
 shift_range imm h =
     let low : nat_lt imm (2 ^ 31) ≡ true = grind (arith, nat_tests) in
     rw ((signed_number imm (omega arith)).1) (rw low (grind (arith, nat_tests)))
 
-imm_range : (op : ImmOp) (rd rs1 imm : ℕ) → ImmFits op imm → is_in_range (Imm op rd rs1 0) (number_in (signed imm)) ≡ true
+imm_range : (op : ImmOp) (rd rs1 imm : ℕ) → ImmFits op imm → is_in_range (Imm op rd rs1 0) (written_number (signed_text imm)) ≡ true
 imm_range Addi rd rs1 imm h = signed_range 2048 imm h (omega arith)
 imm_range Slti rd rs1 imm h = signed_range 2048 imm h (omega arith)
 imm_range Sltiu rd rs1 imm h = signed_range 2048 imm h (omega arith)

@@ -12,7 +12,7 @@ use Rattle.rv32_dis.specs.Texts.{operands}
 use Rattle.rv32_dis.proofs.NamingLemmas.{named_in_has, mnemonic_in_name}
 use Rattle.rv32_dis.proofs.EveryLemmas.{every_mnemonic}
 use Rattle.rv32_asm.specs.Grammar.{is_amount, is_hex_word, Said, At, Word, Does, IsSaid, said_pieces}
-use Rattle.rv32_asm.specs.Reading.{Pieces, only_piece, operands_in, instr_in, at_in, word_in, said_by, is_label}
+use Rattle.rv32_asm.specs.Reading.{Pieces, only_piece, operands_in, instr_in, at_in, word_in, statement_by, is_label}
 use Rattle.rv32_asm.proofs.RegisterLemmas.{bound, held, and_true, only_piece_is}
 use Rattle.rv32_asm.proofs.OperandLemmas.{operands_in_is, operands_again}
 
@@ -55,8 +55,8 @@ pub pick : {X R : Type 0} (b : Bool) {x y : Option X} {v : X} → (if b then x e
 pick true h taken other = taken refl h
 pick false h taken other = other refl h
 
-pub said_by_is : (first : List ℕ) (rest : Pieces) (said : Said) → said_by first rest ≡ Some said → IsStatement (first ∷ rest) said
-unfolding said_by
+pub said_by_is : (first : List ℕ) (rest : Pieces) (said : Said) → statement_by first rest ≡ Some said → IsStatement (first ∷ rest) said
+unfolding statement_by
 said_by_is first rest said h =
     let P : List ℕ → Type 0 = λ name. IsStatement (name ∷ rest) said in
     pick (bytes_eq first (codes ".at")) h
@@ -100,8 +100,8 @@ first_no_label (At number) = refl
 first_no_label (Word digits) = refl
 first_no_label (Does i number) = not_false (is_label (name_of (mnemonic_of i))) (no_label (mnemonic_of i))
 
-pub said_by_again : (said : Said) → IsSaid said → said_by (first_of said) (rest_of said) ≡ Some said
-unfolding said_by at_in word_in instr_in only_piece
+pub said_by_again : (said : Said) → IsSaid said → statement_by (first_of said) (rest_of said) ≡ Some said
+unfolding statement_by at_in word_in instr_in only_piece
 said_by_again (At number) fits = rw fits refl
 said_by_again (Word digits) fits = rw fits refl
 said_by_again (Does i number) fits =

@@ -5,25 +5,25 @@ use Rattle.std.specs.Prelude.{Option, Some, None, map, nat_lt, ◌^◌, if◌the
 use Rattle.std.proofs.lemmas.Bool.Decides.{nat_tests}
 use Rattle.std.proofs.lemmas.List.{take_all, take_rest, drop_all}
 use Rattle.rv32_asm.specs.declared.place.Place.{Place}
-use Rattle.rv32_asm.specs.Pieces.{lines_of, onto_first}
+use Rattle.rv32_asm.specs.Pieces.{text_lines, onto_first}
 use Rattle.rv32_asm.specs.Grammar.{LineSaid, Said, At, Word, Does}
 use Rattle.rv32_asm.specs.Reading.{line_in}
-use Rattle.rv32_asm.specs.Labels.{first_some}
+use Rattle.rv32_asm.specs.Labels.{earlier_place}
 use Rattle.rv32_asm.specs.Sources.{line_len, word_in_digits, source_in, address_or}
 use Rattle.conda_base.specs.Digits.{number_after}
 use Rattle.rv32_asm.specs.Assembled.{Source, label_of, said_of, has_label, place_from, next_place, address_of, address_by, words_by}
 
-pub lines_cut : (text : List ℕ) → 0 < length text → lines_of text ≡ take (line_len text) text ∷ lines_of (drop (line_len text + 1) text)
+pub lines_cut : (text : List ℕ) → 0 < length text → text_lines text ≡ take (line_len text) text ∷ text_lines (drop (line_len text + 1) text)
 lines_cut [] some = absurd (omega arith)
 lines_cut (b ∷ []) some = go (b == 10) refl
   where
-    go : (n : Bool) → (b == 10) ≡ n → lines_of (b ∷ []) ≡ take (if n then 0 else 1) (b ∷ []) ∷ lines_of (drop ((if n then 0 else 1) + 1) (b ∷ []))
+    go : (n : Bool) → (b == 10) ≡ n → text_lines (b ∷ []) ≡ take (if n then 0 else 1) (b ∷ []) ∷ text_lines (drop ((if n then 0 else 1) + 1) (b ∷ []))
     go true is = rw is refl
     go false is = rw is refl
 lines_cut (b ∷ c ∷ text) some = go (b == 10) refl (lines_cut (c ∷ text) (omega arith))
   where
-    go : (n : Bool) → (b == 10) ≡ n → lines_of (c ∷ text) ≡ take (line_len (c ∷ text)) (c ∷ text) ∷ lines_of (drop (line_len (c ∷ text) + 1) (c ∷ text))
-        → lines_of (b ∷ c ∷ text) ≡ take (if n then 0 else line_len (c ∷ text) + 1) (b ∷ c ∷ text) ∷ lines_of (drop ((if n then 0 else line_len (c ∷ text) + 1) + 1) (b ∷ c ∷ text))
+    go : (n : Bool) → (b == 10) ≡ n → text_lines (c ∷ text) ≡ take (line_len (c ∷ text)) (c ∷ text) ∷ text_lines (drop (line_len (c ∷ text) + 1) (c ∷ text))
+        → text_lines (b ∷ c ∷ text) ≡ take (if n then 0 else line_len (c ∷ text) + 1) (b ∷ c ∷ text) ∷ text_lines (drop ((if n then 0 else line_len (c ∷ text) + 1) + 1) (b ∷ c ∷ text))
     go true is later = rw is refl
     go false is later =
         let step : line_len (c ∷ text) + 1 ≡ suc (line_len (c ∷ text)) = omega arith in
@@ -52,44 +52,44 @@ word_read digits i n h same small =
     rw low (ap Some value)
 
 -- a line read is the first of a source
-pub source_cut : (text line after : List ℕ) → lines_of text ≡ line ∷ lines_of after → source_in text ≡ line_in line ∷ source_in after
+pub source_cut : (text line after : List ℕ) → text_lines text ≡ line ∷ text_lines after → source_in text ≡ line_in line ∷ source_in after
 unfolding source_in
 source_cut text line after h = ap (map line_in) h
 
-first_step : (o : Option Place) (b : Bool) (p : Place) (later : Option Place) → first_some (first_some o (if b then Some p else None)) later ≡ first_some o (if b then Some p else later)
+first_step : (o : Option Place) (b : Bool) (p : Place) (later : Option Place) → earlier_place (earlier_place o (if b then Some p else None)) later ≡ earlier_place o (if b then Some p else later)
 first_step None true p later = refl
 first_step None false p later = refl
 first_step (Some o) b p later = refl
 
 pub label_step : (old new : Option Place) (p next : Place) (said : Option LineSaid) (label : Option (List ℕ)) (source later : Source) (q : List ℕ) (all : Option Place)
-    → label ≡ label_of said → new ≡ first_some old (if has_label q label then Some p else None) → source ≡ said ∷ later → next ≡ next_place p said
-    → first_some old (place_from p source q) ≡ all → first_some new (place_from next later q) ≡ all
+    → label ≡ label_of said → new ≡ earlier_place old (if has_label q label then Some p else None) → source ≡ said ∷ later → next ≡ next_place p said
+    → earlier_place old (place_from p source q) ≡ all → earlier_place new (place_from next later q) ≡ all
 label_step old new p next said label source later q all same_label is_new cut same_next before =
-    ap (λ n. first_some n (place_from next later q)) is_new
-    ∙ ap (λ l. first_some (first_some old (if has_label q l then Some p else None)) (place_from next later q)) same_label
-    ∙ ap (λ x. first_some (first_some old (if has_label q (label_of said) then Some p else None)) (place_from x later q)) same_next
+    ap (λ n. earlier_place n (place_from next later q)) is_new
+    ∙ ap (λ l. earlier_place (earlier_place old (if has_label q l then Some p else None)) (place_from next later q)) same_label
+    ∙ ap (λ x. earlier_place (earlier_place old (if has_label q (label_of said) then Some p else None)) (place_from x later q)) same_next
     ∙ first_step old (has_label q (label_of said)) p (place_from (next_place p said) later q)
-    ∙ ap (λ s. first_some old (place_from p s q)) (sym cut)
+    ∙ ap (λ s. earlier_place old (place_from p s q)) (sym cut)
     ∙ before
 
-first_end : (o : Option Place) → first_some o None ≡ o
+first_end : (o : Option Place) → earlier_place o None ≡ o
 first_end None = refl
 first_end (Some p) = refl
 
-pub label_end : (old : Option Place) (p : Place) (source : Source) (q : List ℕ) (all : Option Place) → source ≡ [] → first_some old (place_from p source q) ≡ all → old ≡ all
-label_end old p source q all end before = sym (first_end old) ∙ ap (λ s. first_some old (place_from p s q)) (sym end) ∙ before
+pub label_end : (old : Option Place) (p : Place) (source : Source) (q : List ℕ) (all : Option Place) → source ≡ [] → earlier_place old (place_from p source q) ≡ all → old ≡ all
+label_end old p source q all end before = sym (first_end old) ∙ ap (λ s. earlier_place old (place_from p s q)) (sym end) ∙ before
 
 pub cut_inside : (text : List ℕ) (n : ℕ) → n ≡ line_len text → 0 < length text
-    → lines_of text ≡ take n text ∷ lines_of (take (length text - (n + 1)) (drop (n + 1) text))
+    → text_lines text ≡ take n text ∷ text_lines (take (length text - (n + 1)) (drop (n + 1) text))
 cut_inside text n same some = rw (take_rest text (n + 1)) (rw same (lines_cut text some))
 
 pub cut_whole : (text : List ℕ) (n : ℕ) → n ≡ line_len text → 0 < length text → length text ≤ n
-    → lines_of text ≡ text ∷ lines_of (take (length text - length text) (drop (length text) text))
+    → text_lines text ≡ text ∷ text_lines (take (length text - length text) (drop (length text) text))
 cut_whole text n same some far =
     let after : drop (line_len text + 1) text ≡ [] = drop_all (line_len text + 1) text (omega arith) in
     let front : take (line_len text) text ≡ text = take_all (line_len text) text (omega arith) in
     rw (take_rest text (length text)) (rw (drop_all (length text) text (omega arith))
-    (lines_cut text some ∙ ap (λ l. l ∷ lines_of (drop (line_len text + 1) text)) front ∙ ap (λ l. text ∷ lines_of l) after))
+    (lines_cut text some ∙ ap (λ l. l ∷ text_lines (drop (line_len text + 1) text)) front ∙ ap (λ l. text ∷ text_lines l) after))
 
 pub source_none : (text : List ℕ) → length text ≡ 0 → source_in text ≡ []
 unfolding source_in

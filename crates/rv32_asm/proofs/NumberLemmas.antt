@@ -6,10 +6,10 @@ use Rattle.std.specs.Fmt.{decimal}
 use Rattle.std.proofs.lemmas.Fmt.{decimal_digit, digits_decimal, digits_value-decimal, decimal_nonempty, first_decimal}
 use Rattle.std.proofs.lemmas.Str.Parse.{IsDigitsTest, FoldsDigits, IsNumeralModel, numerals_by_fold}
 use Rattle.std.proofs.lemmas.Bool.Decides.{nat_tests}
-use Rattle.rv32_dis.specs.Texts.{signed}
+use Rattle.rv32_dis.specs.Texts.{signed_text}
 use Rattle.conda_base.specs.Digits.{number_after, is_digit, is_numeral}
 use Rattle.rv32_asm.specs.Grammar.{is_number}
-use Rattle.rv32_asm.specs.Assembled.{number_in, complement}
+use Rattle.rv32_asm.specs.Assembled.{written_number, complement}
 
 abbrev AreDigits : List ℕ → Type 0
 AreDigits text = list_all is_digit text ≡ true
@@ -41,18 +41,18 @@ decimal_numeral (suc n) h =
     or_true true = refl
     or_true false = refl
 
-no_minus : (text : List ℕ) → list_all is_digit text ≡ true → is_numeral text ≡ true → (is_number text ≡ true) × (number_in text ≡ pos (number_after 0 text))
+no_minus : (text : List ℕ) → list_all is_digit text ≡ true → is_numeral text ≡ true → (is_number text ≡ true) × (written_number text ≡ pos (number_after 0 text))
 no_minus [] digits numeral = absurd (cc)
 no_minus (b ∷ text) digits numeral =
     let not45 : (b == 45) ≡ false = grind (arith, nat_tests, digits) in
     (rw not45 numeral, rw not45 refl)
 
-pub decimal_number : (n : ℕ) → n < 2 ^ 64 → (is_number (decimal n) ≡ true) × (number_in (decimal n) ≡ pos n)
+pub decimal_number : (n : ℕ) → n < 2 ^ 64 → (is_number (decimal n) ≡ true) × (written_number (decimal n) ≡ pos n)
 decimal_number n h =
     let both = no_minus (decimal n) (decimal_digits n h) (decimal_numeral n h) in
     (both.0, both.1 ∙ ap pos (decimal_value n h))
 
-pub minus_number : (n : ℕ) → 0 < n → n < 2 ^ 64 → (is_number (45 ∷ decimal n) ≡ true) × (number_in (45 ∷ decimal n) ≡ negsuc (n - 1))
+pub minus_number : (n : ℕ) → 0 < n → n < 2 ^ 64 → (is_number (45 ∷ decimal n) ≡ true) × (written_number (45 ∷ decimal n) ≡ negsuc (n - 1))
 minus_number n some h =
     let first : (get_or (decimal n) 0 0 == 48) ≡ false = grind (arith, nat_tests, first_decimal n some h) in
     (rw (decimal_numeral n h) (rw first refl), ap (λ k. negsuc (k - 1)) (decimal_value n h))
@@ -61,12 +61,12 @@ minus_number n some h =
 abbrev pub integer : ℕ → ℤ
 integer word = if nat_lt word (2 ^ 31) then pos word else negsuc (2 ^ 32 - word - 1)
 
-pub signed_number : (word : ℕ) → word < 2 ^ 32 → (is_number (signed word) ≡ true) × (number_in (signed word) ≡ integer word)
+pub signed_number : (word : ℕ) → word < 2 ^ 32 → (is_number (signed_text word) ≡ true) × (written_number (signed_text word) ≡ integer word)
 signed_number word h = go (nat_lt word (2 ^ 31)) refl
   where
     go : (b : Bool) → nat_lt word (2 ^ 31) ≡ b
         → (is_number (if b then decimal word else codes "-" ++ decimal (2 ^ 32 - word)) ≡ true)
-        × (number_in (if b then decimal word else codes "-" ++ decimal (2 ^ 32 - word)) ≡ (if b then pos word else negsuc (2 ^ 32 - word - 1)))
+        × (written_number (if b then decimal word else codes "-" ++ decimal (2 ^ 32 - word)) ≡ (if b then pos word else negsuc (2 ^ 32 - word - 1)))
     go true is = decimal_number word (omega arith)
     go false is = minus_number (2 ^ 32 - word) (omega arith) (omega arith)
 

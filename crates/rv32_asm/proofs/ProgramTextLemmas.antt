@@ -12,11 +12,11 @@ use Rattle.rv32_decode.specs.Decoding.{decoded}
 use Rattle.rv32_decode.specs.Encoding.{encoded}
 use Rattle.rv32_decode.specs.Ranges.{FieldsFit}
 use Rattle.rv32_decode.proofs.GivenBack.{decoded-fields}
-use Rattle.rv32_dis.specs.Texts.{signed, number_of, instr_text, raw_text, word_text_by, word_line, program_text}
+use Rattle.rv32_dis.specs.Texts.{signed_text, immediate_text, instr_text, raw_text, word_text_by, word_line, program_text}
 use Rattle.rv32_asm.specs.declared.place.Place.{Place}
-use Rattle.rv32_asm.specs.Pieces.{pieces, lines_of, onto_first}
+use Rattle.rv32_asm.specs.Pieces.{pieces, text_lines, onto_first}
 use Rattle.rv32_asm.specs.Grammar.{is_name, is_name_byte, with_imm, Said, At, Word, LineSaid, Spells}
-use Rattle.rv32_asm.specs.Assembled.{Source, IsSource, Assembled, words_by, first_place, next_place, is_address, address_of, number_in, amount, misses, is_out_of_range, uses_unknown, has_bad_address, why_of, bad_or, bad_from, instr_word, line_words, words_from}
+use Rattle.rv32_asm.specs.Assembled.{Source, IsSource, Assembled, words_by, first_place, next_place, is_address, address_of, written_number, amount, misses, is_out_of_range, uses_unknown, has_bad_address, why_of, bad_or, bad_from, instr_word, line_words, words_from}
 use Rattle.rv32_asm.specs.Programs.{most_words, IsProgram}
 use Rattle.rv32_asm.proofs.RegisterLemmas.{and_true}
 use Rattle.rv32_asm.proofs.NumberLemmas.{decimal_digits, decimal_value, decimal_numeral}
@@ -59,14 +59,14 @@ decimal_no_name n h = digits_no_name (decimal n) (decimal_digits n h)
 minus_no_name : (text : List ℕ) → is_name (45 ∷ text) ≡ false
 minus_no_name text = and_false (nat_le 1 (length (45 ∷ text))) (nat_le (length (45 ∷ text)) 32) (not (is_digit 45))
 
-signed_no_name : (word : ℕ) → word < 2 ^ 64 → is_name (signed word) ≡ false
+signed_no_name : (word : ℕ) → word < 2 ^ 64 → is_name (signed_text word) ≡ false
 signed_no_name word h = go (nat_lt word (2 ^ 31))
   where
     go : (b : Bool) → is_name (if b then decimal word else codes "-" ++ decimal (2 ^ 32 - word)) ≡ false
     go true = decimal_no_name word h
     go false = minus_no_name (decimal (2 ^ 32 - word))
 
-imm_small : (i : Instr) → FieldsFit i → is_name (number_of i) ≡ false
+imm_small : (i : Instr) → FieldsFit i → is_name (immediate_text i) ≡ false
 imm_small (Lui rd imm) fits = let w = fits.1.word in decimal_no_name _ (omega arith)
 imm_small (Auipc rd imm) fits = let w = fits.1.word in decimal_no_name _ (omega arith)
 imm_small (Jal rd imm) fits = let w = fits.1.signed.word in signed_no_name imm (omega arith)
@@ -95,7 +95,7 @@ raw_good all p w h =
 
 instr_good : (all : Source) (p : Place) (w : ℕ) (i : Instr) → FieldsFit i → encoded i ≡ w → IsGoodLine all p w (said_by_text i)
 instr_good all p w i fits same =
-    let number : amount all p (number_of i) ≡ Some (number_in (number_of i)) = rw (imm_small i fits) refl in
+    let number : amount all p (immediate_text i) ≡ Some (written_number (immediate_text i)) = rw (imm_small i fits) refl in
     let back = instr_number_back i fits in
     record {
       in_range = ap (misses (with_imm i 0)) number ∙ ap not back.in_range;
@@ -137,16 +137,16 @@ small_from [] h = tt
 small_from (w ∷ words) h = (h 0, small_from words (λ i. h (suc i)))
 
 -- the lines of a text
-line_then : (line text : List ℕ) → IsPlainText line → lines_of (line ++ 10 ∷ text) ≡ line ∷ lines_of text
+line_then : (line text : List ℕ) → IsPlainText line → text_lines (line ++ 10 ∷ text) ≡ line ∷ text_lines text
 line_then [] text h = refl
 line_then (b ∷ line) text h =
     let both = and_true (is_plain b) (list_all is_plain line) h in
     rw ((plain_is b both.0).same_line) (ap (onto_first b) (line_then line text both.1))
 
-body_lines : (words : List ℕ) → AreSmall words → lines_of (flat_map (λ w. word_line w ++ 10 ∷ []) words) ≡ map word_line words
+body_lines : (words : List ℕ) → AreSmall words → text_lines (flat_map (λ w. word_line w ++ 10 ∷ []) words) ≡ map word_line words
 body_lines [] h = refl
 body_lines (w ∷ words) h =
-    ap lines_of (append_assoc (word_line w) (10 ∷ []) (flat_map (λ v. word_line v ++ 10 ∷ []) words))
+    ap text_lines (append_assoc (word_line w) (10 ∷ []) (flat_map (λ v. word_line v ++ 10 ∷ []) words))
     ∙ line_then (word_line w) (flat_map (λ v. word_line v ++ 10 ∷ []) words) ((word_is [] first_place w h.0).plain)
     ∙ ap (λ q. word_line w ∷ q) (body_lines words h.1)
 

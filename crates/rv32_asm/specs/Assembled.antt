@@ -9,7 +9,7 @@ use Rattle.rv32_decode.specs.Encoding.{encoded, is_shift}
 use Rattle.rv32_asm.specs.declared.limits.TheConstants.{DEFAULT_ADDRESS, MOST_WORDS}
 use Rattle.rv32_asm.specs.declared.place.Place.{Place}
 use Rattle.rv32_asm.specs.declared.place.BadLine.{BadLine}
-use Rattle.rv32_asm.specs.Pieces.{lines_of}
+use Rattle.rv32_asm.specs.Pieces.{text_lines}
 use Rattle.rv32_asm.specs.Grammar.{is_name, with_imm, Said, At, Word, Does, LineSaid, Says}
 
 -- what the lines of a text say, None for a line that isn't of the form
@@ -57,8 +57,8 @@ place_from p [] name = None
 place_from p (line ∷ source) name =
     if has_label name (label_of line) then Some p else place_from (next_place p line) source name
 
-abbrev pub place_of : Source → List ℕ → Option Place
-place_of source name = place_from first_place source name
+abbrev pub label_place : Source → List ℕ → Option Place
+label_place source name = place_from first_place source name
 
 -- a multiple of 4 up to 4294967292
 abbrev pub is_address : List ℕ → Bool
@@ -80,9 +80,9 @@ abbrev pub word_address : Source → ℕ → ℕ
 word_address source words = address_of source + 4 * words
 
 -- a number as it is written
-abbrev pub number_in : List ℕ → ℤ
-number_in [] = pos 0
-number_in (byte ∷ text) =
+abbrev pub written_number : List ℕ → ℤ
+written_number [] = pos 0
+written_number (byte ∷ text) =
     if byte == 45 then negsuc (number_after 0 text - 1) else pos (number_after 0 (byte ∷ text))
 
 -- how far it is from one address to another
@@ -93,8 +93,8 @@ offset from to = if nat_le from to then pos (to - from) else negsuc (from - to -
 abbrev pub amount : Source → Place → List ℕ → Option ℤ
 amount source p text =
     if is_name text
-    then option_map (λ to. offset (word_address source p.words) (word_address source to.words)) (place_of source text)
-    else Some (number_in text)
+    then option_map (λ to. offset (word_address source p.words) (word_address source to.words)) (label_place source text)
+    else Some (written_number text)
 
 -- from -sign to sign - 1
 abbrev pub in_signed : ℕ → ℤ → Bool
@@ -160,7 +160,7 @@ is_on_other_line p (Some first) = not (first.line == p.line)
 
 abbrev pub is_repeated : Source → Place → Option (List ℕ) → Bool
 is_repeated source p None = false
-is_repeated source p (Some name) = is_on_other_line p (place_of source name)
+is_repeated source p (Some name) = is_on_other_line p (label_place source name)
 
 abbrev pub uses_unknown : Source → Place → Option Said → Bool
 uses_unknown source p None = false
@@ -235,7 +235,7 @@ words_of source = words_from source first_place source
 -- the source of a text has no bad line, and is the program of these words at this address
 pub record Assembled (text : List ℕ) (at : ℕ) (words : List ℕ) : Type 0 where
   pub source : Source
-  pub says : IsSource (lines_of text) source
+  pub says : IsSource (text_lines text) source
   pub good : first_bad source ≡ None
   pub at_is : address_of source ≡ at
   pub words_are : words_of source ≡ words
@@ -243,5 +243,5 @@ pub record Assembled (text : List ℕ) (at : ℕ) (words : List ℕ) : Type 0 wh
 -- this is the first bad line of a text
 pub record IsBad (text : List ℕ) (bad : BadLine) : Type 0 where
   pub source : Source
-  pub says : IsSource (lines_of text) source
+  pub says : IsSource (text_lines text) source
   pub first : first_bad source ≡ Some bad

@@ -133,8 +133,8 @@ word_in ps = do
   when (bytes_eq (take 2 text) (codes "0x") && is_hex_word (drop 2 text)) (Word (drop 2 text))
 
 -- a statement by its first word
-unfoldable pub said_by : List ℕ → Pieces → Option Said
-said_by first rest =
+unfoldable pub statement_by : List ℕ → Pieces → Option Said
+statement_by first rest =
     if bytes_eq first (codes ".at") then at_in rest
     else (if bytes_eq first (codes ".word") then word_in rest
     else (mnemonic_in first >>= λ m. instr_in m rest))
@@ -142,7 +142,7 @@ said_by first rest =
 -- nothing, or a statement
 unfoldable pub statement_in : Pieces → Option (Option Said)
 statement_in [] = Some None
-statement_in (first ∷ rest) = option_map Some (said_by first rest)
+statement_in (first ∷ rest) = option_map Some (statement_by first rest)
 
 abbrev pub labeled : Option (List ℕ) → Pieces → Option LineSaid
 labeled label ps = option_map (λ s. record { label = label; statement = s }) (statement_in ps)
@@ -151,13 +151,13 @@ labeled label ps = option_map (λ s. record { label = label; statement = s }) (s
 abbrev pub is_label : List ℕ → Bool
 is_label piece = nat_le 1 (length piece) && slice_index piece (length piece - 1) == 58
 
-abbrev pub name_in : List ℕ → List ℕ
-name_in piece = take (length piece - 1) piece
+abbrev pub label_name : List ℕ → List ℕ
+label_name piece = take (length piece - 1) piece
 
 unfoldable pub pieces_in : Pieces → Option LineSaid
 pieces_in [] = Some (record { label = None; statement = None })
 pieces_in (first ∷ rest) =
-    if is_label first then (if is_name (name_in first) then labeled (Some (name_in first)) rest else None)
+    if is_label first then (if is_name (label_name first) then labeled (Some (label_name first)) rest else None)
     else labeled None (first ∷ rest)
 
 -- what a line says

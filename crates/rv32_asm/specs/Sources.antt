@@ -1,12 +1,12 @@
 -- What a text says, read line by line.
 use Rattle.std.specs.Prelude.{ℕ, ◌+◌, ◌^◌, List, [], ◌∷◌, map, Option, Some, None, nat_lt, nat_eq, if◌then◌else◌}
-use Rattle.rv32_asm.specs.Pieces.{lines_of}
+use Rattle.rv32_asm.specs.Pieces.{text_lines}
 use Rattle.rv32_asm.specs.Reading.{line_in}
 use Rattle.conda_base.specs.Digits.{number_after}
 use Rattle.rv32_asm.specs.Assembled.{Source}
 
 unfoldable pub source_in : List ℕ → Source
-source_in text = map line_in (lines_of text)
+source_in text = map line_in (text_lines text)
 
 -- the length of a text's first line
 abbrev pub line_len : List ℕ → ℕ

@@ -2,7 +2,7 @@
 ghost use Rattle.std.specs.Prelude.{◌≡◌, ◌+◌, ◌*◌, ◌<◌, ◌^◌, ℕ, IsTrue, Some, not};
 ghost use Rattle.rv32_decode.specs.Ranges.{FieldsFit};
 ghost use Rattle.rv32_asm.specs.Grammar.{with_imm};
-ghost use Rattle.rv32_asm.specs.Assembled.{number_in, offset, in_signed, in_unsigned, is_even, is_in_range, imm_by, complement};
+ghost use Rattle.rv32_asm.specs.Assembled.{written_number, offset, in_signed, in_unsigned, is_even, is_in_range, imm_by, complement};
 ghost use Rattle.rv32_asm.specs.Integers.{integer_view, IsAmount};
 
 use crate::survey::read_word;
@@ -36,7 +36,7 @@ pub(crate) fn offset(from: u64, to: u64) -> Integer
 
 /// A number as it is written.
 pub(crate) fn read_number(text: &[u8]) -> Amount
-    ensures { IsAmount result (Some (number_in text.now)) }
+    ensures { IsAmount result (Some (written_number text.now)) }
 {
     if text.is_empty() {
         return Amount::Is(Integer::AtLeast0(0));

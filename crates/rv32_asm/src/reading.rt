@@ -19,11 +19,11 @@ ghost use Rattle.rv32_asm.specs.Reading.{
   instr_in,
   at_in,
   word_in,
-  said_by,
+  statement_by,
   statement_in,
   labeled,
   is_label,
-  name_in,
+  label_name,
   pieces_in,
   line_in,
   register_in,
@@ -406,7 +406,7 @@ fn read_word(text: &[u8]) -> Option<Statement<'_>>
 
 #[tactic(auto, unfolding(crate::specs::Reading::said_by))]
 fn read_said<'a>(first: &[u8], rest: &'a [u8]) -> Option<Statement<'a>>
-    ensures { Returns said_view result (said_by first.now (pieces rest.now)) }
+    ensures { Returns said_view result (statement_by first.now (pieces rest.now)) }
 {
     if first == b".at".as_slice() {
         return read_at(rest);

@@ -3,7 +3,7 @@ use Rattle.std.proofs.Common.{◌≡◌, ◌+◌, ◌*◌, ◌/◌, ◌%◌, ◌
 use Rattle.std.proofs.Math.Nat.{div-div-eq-div-mul}
 use Rattle.std.proofs.lemmas.Nat.{shr_high, mod_low, shr_split}
 use Rattle.rv32_decode.specs.Fields.{field, bit, opcode, rd, funct3, rs1, rs2, funct7}
-use Rattle.rv32_decode.specs.Encoding.{joined, word_of}
+use Rattle.rv32_decode.specs.Encoding.{joined_bits, word_of}
 
 -- ---- the fields of a word that is made of six
 
@@ -25,11 +25,11 @@ pub fields-word_of : (high second first code dest low : ℕ) → high < 128 → 
     → HasFields (word_of high second first code dest low) high second first code dest low
 unfolding word_of
 fields-word_of high second first code dest low hh hs hf hc hd hl =
-    let n4 : ℕ = joined high 5 second in
-    let n3 : ℕ = joined n4 5 first in
-    let n2 : ℕ = joined n3 3 code in
-    let n1 : ℕ = joined n2 5 dest in
-    let w : ℕ = joined n1 7 low in
+    let n4 : ℕ = joined_bits high 5 second in
+    let n3 : ℕ = joined_bits n4 5 first in
+    let n2 : ℕ = joined_bits n3 3 code in
+    let n1 : ℕ = joined_bits n2 5 dest in
+    let w : ℕ = joined_bits n1 7 low in
     let e7 : w / 2 ^ 7 ≡ n1 = shr_high n1 7 low hl in
     let e12 : w / 2 ^ 12 ≡ n2 = above w 7 5 n2 dest hd e7 in
     let e15 : w / 2 ^ 15 ≡ n3 = above w 12 3 n3 code hc e12 in
@@ -46,18 +46,18 @@ fields-word_of high second first code dest low hh hs hf hc hd hl =
 
 -- ---- a word of 32 bits is made of its six fields
 
-split_at : (w j k : ℕ) → joined (w / (2 ^ j * 2 ^ k)) k (w / 2 ^ j % 2 ^ k) ≡ w / 2 ^ j
+split_at : (w j k : ℕ) → joined_bits (w / (2 ^ j * 2 ^ k)) k (w / 2 ^ j % 2 ^ k) ≡ w / 2 ^ j
 split_at w j k = rw (sym (div-div-eq-div-mul w (2 ^ j) (2 ^ k))) (shr_split (w / 2 ^ j) k)
 
 pub word_of-fields : (w : ℕ) → w < 2 ^ 32 → word_of (funct7 w) (rs2 w) (rs1 w) (funct3 w) (rd w) (opcode w) ≡ w
 unfolding word_of
 word_of-fields w small =
     let top : w / 2 ^ 25 % 2 ^ 7 ≡ w / 2 ^ 25 = omega arith in
-    let e20 : joined (w / 2 ^ 25 % 2 ^ 7) 5 (rs2 w) ≡ w / 2 ^ 20 = ap (λ n. joined n 5 (rs2 w)) top ∙ split_at w 20 5 in
-    let e15 : joined (joined (w / 2 ^ 25 % 2 ^ 7) 5 (rs2 w)) 5 (rs1 w) ≡ w / 2 ^ 15 = ap (λ n. joined n 5 (rs1 w)) e20 ∙ split_at w 15 5 in
-    let e12 : joined (joined (joined (w / 2 ^ 25 % 2 ^ 7) 5 (rs2 w)) 5 (rs1 w)) 3 (funct3 w) ≡ w / 2 ^ 12 = ap (λ n. joined n 3 (funct3 w)) e15 ∙ split_at w 12 3 in
-    let e7 : joined (joined (joined (joined (w / 2 ^ 25 % 2 ^ 7) 5 (rs2 w)) 5 (rs1 w)) 3 (funct3 w)) 5 (rd w) ≡ w / 2 ^ 7 = ap (λ n. joined n 5 (rd w)) e12 ∙ split_at w 7 5 in
-    ap (λ n. joined n 7 (opcode w)) e7 ∙ shr_split w 7
+    let e20 : joined_bits (w / 2 ^ 25 % 2 ^ 7) 5 (rs2 w) ≡ w / 2 ^ 20 = ap (λ n. joined_bits n 5 (rs2 w)) top ∙ split_at w 20 5 in
+    let e15 : joined_bits (joined_bits (w / 2 ^ 25 % 2 ^ 7) 5 (rs2 w)) 5 (rs1 w) ≡ w / 2 ^ 15 = ap (λ n. joined_bits n 5 (rs1 w)) e20 ∙ split_at w 15 5 in
+    let e12 : joined_bits (joined_bits (joined_bits (w / 2 ^ 25 % 2 ^ 7) 5 (rs2 w)) 5 (rs1 w)) 3 (funct3 w) ≡ w / 2 ^ 12 = ap (λ n. joined_bits n 3 (funct3 w)) e15 ∙ split_at w 12 3 in
+    let e7 : joined_bits (joined_bits (joined_bits (joined_bits (w / 2 ^ 25 % 2 ^ 7) 5 (rs2 w)) 5 (rs1 w)) 3 (funct3 w)) 5 (rd w) ≡ w / 2 ^ 7 = ap (λ n. joined_bits n 5 (rd w)) e12 ∙ split_at w 7 5 in
+    ap (λ n. joined_bits n 7 (opcode w)) e7 ∙ shr_split w 7
 
 -- ---- wider fields
 

@@ -2,7 +2,7 @@
 ghost use Rattle.std.specs.Prelude.{◌≡◌, ◌+◌, ◌*◌, ◌^◌, ◌<◌, ◌≤◌};
 ghost use Rattle.rv32_decode.specs.Ranges.{FieldsFit};
 ghost use Rattle.rv32_decode.specs.Decoding.{decoded};
-ghost use Rattle.rv32_decode.specs.Encoding.{joined, word_of, word_i, word_s, word_b, word_u, word_j, encoded, bit_of};
+ghost use Rattle.rv32_decode.specs.Encoding.{joined_bits, word_of, word_i, word_s, word_b, word_u, word_j, encoded, bit_of};
 
 use crate::instr::Instr;
 use crate::tables::{amo_code, branch_code, imm_code, is_shift, load_code, reg_code, store_code};
@@ -64,7 +64,7 @@ fn join(high: u32, bits: u32, low: u32) -> u32
     requires low { low < 2 ^ bits }
     requires room { high * 2 ^ bits + low < 2 ^ 32 }
     requires bits { bits ≤ 7 }
-    ensures { result ≡ joined high bits low }
+    ensures { result ≡ joined_bits high bits low }
 {
     high << bits | low
 }

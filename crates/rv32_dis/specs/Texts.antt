@@ -13,8 +13,8 @@ abbrev pub register : ℕ → List ℕ
 register r = codes "x" ++ decimal r
 
 -- a word of two's complement as a signed number
-abbrev pub signed : ℕ → List ℕ
-signed word = if nat_lt word (2 ^ 31) then decimal word else codes "-" ++ decimal (2 ^ 32 - word)
+abbrev pub signed_text : ℕ → List ℕ
+signed_text word = if nat_lt word (2 ^ 31) then decimal word else codes "-" ++ decimal (2 ^ 32 - word)
 
 -- the four ways to write operands, each a list of words and marks
 abbrev pub pair : ℕ → List ℕ → List (List ℕ)
@@ -50,20 +50,20 @@ abbrev pub instr_pieces : Instr → List ℕ → List (List ℕ)
 instr_pieces i number = name_of (mnemonic_of i) ∷ operands i number
 
 -- how an instruction's immediate is written: LUI and AUIPC name the upper 20 bits
-abbrev pub number_of : Instr → List ℕ
-number_of (Lui rd imm) = decimal (imm / 4096)
-number_of (Auipc rd imm) = decimal (imm / 4096)
-number_of (Jal rd imm) = signed imm
-number_of (Jalr rd rs1 imm) = signed imm
-number_of (Branch op rs1 rs2 imm) = signed imm
-number_of (Load op rd rs1 imm) = signed imm
-number_of (Store op rs1 rs2 imm) = signed imm
-number_of (Imm op rd rs1 imm) = signed imm
-number_of (Reg op rd rs1 rs2) = []
-number_of (Amo op aq rl rd rs1 rs2) = []
-number_of Fence = []
-number_of Ecall = []
-number_of Ebreak = []
+abbrev pub immediate_text : Instr → List ℕ
+immediate_text (Lui rd imm) = decimal (imm / 4096)
+immediate_text (Auipc rd imm) = decimal (imm / 4096)
+immediate_text (Jal rd imm) = signed_text imm
+immediate_text (Jalr rd rs1 imm) = signed_text imm
+immediate_text (Branch op rs1 rs2 imm) = signed_text imm
+immediate_text (Load op rd rs1 imm) = signed_text imm
+immediate_text (Store op rs1 rs2 imm) = signed_text imm
+immediate_text (Imm op rd rs1 imm) = signed_text imm
+immediate_text (Reg op rd rs1 rs2) = []
+immediate_text (Amo op aq rl rd rs1 rs2) = []
+immediate_text Fence = []
+immediate_text Ecall = []
+immediate_text Ebreak = []
 
 -- words and marks with no spaces but one after the first
 abbrev pub spaced : List (List ℕ) → List ℕ
@@ -73,7 +73,7 @@ spaced (first ∷ next ∷ rest) = first ++ codes " " ++ concat (next ∷ rest)
 
 -- an instruction's text
 unfoldable pub instr_text : Instr → List ℕ
-instr_text i = spaced (instr_pieces i (number_of i))
+instr_text i = spaced (instr_pieces i (immediate_text i))
 
 -- a word that isn't written as an instruction
 abbrev pub raw_text : ℕ → List ℕ

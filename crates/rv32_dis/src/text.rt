@@ -5,7 +5,7 @@ ghost use Rattle.std.specs.Fmt.{decimal};
 ghost use Rattle.arrayvec.specs.ArrayVec.{array_vec_len};
 ghost use Rattle.rv32_decode.specs.Ranges.{FieldsFit};
 ghost use Rattle.rv32_dis.specs.Mnemonics.{mnemonic_of, name_of};
-ghost use Rattle.rv32_dis.specs.Texts.{register, signed, pair, triple, addressed, atomic, instr_text, raw_text, word_line};
+ghost use Rattle.rv32_dis.specs.Texts.{register, signed_text, pair, triple, addressed, atomic, instr_text, raw_text, word_line};
 
 use crate::mnemonic::Mnemonic;
 use arrayvec::ArrayVec;
@@ -29,7 +29,7 @@ fn push_register(out: &mut Line, r: u8)
 #[tactic(auto, using(conda_base::proofs::DecimalLemmas::length_decimal_word))]
 fn push_signed(out: &mut Line, word: u32)
     requires { array_vec_len out.old + 11 ≤ 48 }
-    ensures text { out.new.items ≡ out.old.items ++ signed word }
+    ensures text { out.new.items ≡ out.old.items ++ signed_text word }
     ensures fits { array_vec_len out.new ≤ array_vec_len out.old + 11 }
 {
     if word < 0x8000_0000 {
@@ -72,7 +72,7 @@ fn push_base(out: &mut Line, r: u8)
 
 fn push_addressed(out: &mut Line, r: u8, imm: u32, base: u8)
     requires { array_vec_len out.old + 22 ≤ 48 }
-    ensures text { out.new.items ≡ out.old.items ++ concat (addressed r (signed imm) base) }
+    ensures text { out.new.items ≡ out.old.items ++ concat (addressed r (signed_text imm) base) }
     ensures fits { array_vec_len out.new ≤ array_vec_len out.old + 22 }
 {
     push_first(out, r);
@@ -82,7 +82,7 @@ fn push_addressed(out: &mut Line, r: u8, imm: u32, base: u8)
 
 fn push_triple(out: &mut Line, r: u8, s: u8, imm: u32)
     requires { array_vec_len out.old + 21 ≤ 48 }
-    ensures text { out.new.items ≡ out.old.items ++ concat (triple r s (signed imm)) }
+    ensures text { out.new.items ≡ out.old.items ++ concat (triple r s (signed_text imm)) }
     ensures fits { array_vec_len out.new ≤ array_vec_len out.old + 21 }
 {
     push_first(out, r);
@@ -112,7 +112,7 @@ fn push_atomic(out: &mut Line, r: u8, s: u8, base: u8)
 
 fn push_jump(out: &mut Line, r: u8, imm: u32)
     requires { array_vec_len out.old + 16 ≤ 48 }
-    ensures text { out.new.items ≡ out.old.items ++ concat (pair r (signed imm)) }
+    ensures text { out.new.items ≡ out.old.items ++ concat (pair r (signed_text imm)) }
     ensures fits { array_vec_len out.new ≤ array_vec_len out.old + 16 }
 {
     push_first(out, r);

@@ -11,7 +11,7 @@ use Rattle.rv32_hart.specs.declared.regs.Trap.{Trap}
 use Rattle.rv32_hart.specs.declared.act.Access.{Access}
 use Rattle.rv32_hart.specs.declared.act.Access.TheVariants.{Nothing, Load, Store, Amo, Call}
 use Rattle.rv32_hart.specs.declared.act.Planned.{Planned}
-use Rattle.rv32_hart.specs.Regs.{written}
+use Rattle.rv32_hart.specs.Regs.{register_written}
 use Rattle.rv32_hart.specs.Code.{CodeView, word_at, in_memory}
 use Rattle.rv32_hart.specs.Arithmetic.{sum_of, is_taken, imm_result, reg_result, extended, load_size, is_signed, store_size}
 
@@ -93,7 +93,7 @@ next_pc r = (r.pc + 4) % 2 ^ 32
 
 -- the registers with one written and pc moved
 abbrev pub sets_and_jumps : Regs → ℕ → ℕ → ℕ → Regs
-sets_and_jumps r rd value pc = record { pc = pc; x = written r.x rd value }
+sets_and_jumps r rd value pc = record { pc = pc; x = register_written r.x rd value }
 
 -- the registers with one written and pc at the next instruction
 abbrev pub sets : Regs → ℕ → ℕ → Regs

@@ -18,8 +18,8 @@ use Rattle.rv32_decode.specs.declared.instr.AmoOp.TheVariants.{Amoadd, Amoswap, 
 abbrev pub signed : ℕ → ℤ
 signed w = cast_signed w32 w
 
-abbrev pub word_of : ℤ → ℕ
-word_of z = cast_unsigned w32 z
+abbrev pub word_of_signed : ℤ → ℕ
+word_of_signed z = cast_unsigned w32 z
 
 abbrev pub less_signed : ℕ → ℕ → Bool
 less_signed a b = int_lt (signed a) (signed b)
@@ -41,7 +41,7 @@ shifted_right a by = a / 2 ^ by
 
 -- the sign comes in
 abbrev pub shifted_right_signed : ℕ → ℕ → ℕ
-shifted_right_signed a by = word_of (int_shr (signed a) by)
+shifted_right_signed a by = word_of_signed (int_shr (signed a) by)
 
 -- the high word of a product of 64 bits
 abbrev pub high_word : ℤ → ℕ
@@ -49,13 +49,13 @@ high_word z = cast_unsigned w64 z / 2 ^ 32
 
 -- quotients are rounded towards zero; a quotient by zero is all ones and a remainder by zero is the dividend
 abbrev pub quotient_signed : ℕ → ℕ → ℕ
-quotient_signed a b = if b == 0 then 2 ^ 32 - 1 else word_of (int_div (signed a) (signed b))
+quotient_signed a b = if b == 0 then 2 ^ 32 - 1 else word_of_signed (int_div (signed a) (signed b))
 
 abbrev pub quotient : ℕ → ℕ → ℕ
 quotient a b = if b == 0 then 2 ^ 32 - 1 else a / b
 
 abbrev pub remainder_signed : ℕ → ℕ → ℕ
-remainder_signed a b = if b == 0 then a else word_of (int_rem (signed a) (signed b))
+remainder_signed a b = if b == 0 then a else word_of_signed (int_rem (signed a) (signed b))
 
 abbrev pub remainder : ℕ → ℕ → ℕ
 remainder a b = if b == 0 then a else a % b
@@ -116,8 +116,8 @@ amo_result Amomaxu old value = if nat_lt old value then value else old
 
 -- the register's value for a loaded one: its low byte or half, with its sign or zeros above, or the word
 abbrev pub extended : LoadOp → ℕ → ℕ
-extended Lb loaded = word_of (cast_signed w8 (loaded % 2 ^ 8))
-extended Lh loaded = word_of (cast_signed w16 (loaded % 2 ^ 16))
+extended Lb loaded = word_of_signed (cast_signed w8 (loaded % 2 ^ 8))
+extended Lh loaded = word_of_signed (cast_signed w16 (loaded % 2 ^ 16))
 extended Lw loaded = loaded
 extended Lbu loaded = loaded % 2 ^ 8
 extended Lhu loaded = loaded % 2 ^ 16

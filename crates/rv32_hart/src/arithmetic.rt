@@ -2,7 +2,7 @@
 ghost use Rattle.std.specs.Prelude.{◌≡◌, ◌+◌, ◌-◌, ◌*◌, ◌*ℤ◌, ◌/◌, ◌%◌, ◌^◌, ◌<◌, ◌≤◌, pos, unsigned_abs, if◌then◌else◌};
 ghost use Rattle.conda_base.specs.Lines.{IsAccessSize};
 ghost use Rattle.rv32_decode.specs.Ranges.{ImmFits};
-ghost use Rattle.rv32_hart.specs.Arithmetic.{signed, word_of, less_signed, high_word, quotient_signed, quotient, remainder_signed, remainder, shifted_right_signed, is_taken, imm_result, reg_result, amo_result, extended, load_size, is_signed, store_size};
+ghost use Rattle.rv32_hart.specs.Arithmetic.{signed, word_of_signed, less_signed, high_word, quotient_signed, quotient, remainder_signed, remainder, shifted_right_signed, is_taken, imm_result, reg_result, amo_result, extended, load_size, is_signed, store_size};
 
 use rv32_decode::{AmoOp, BranchOp, ImmOp, LoadOp, RegOp, StoreOp};
 

@@ -7,7 +7,7 @@ use Rattle.schedule_log.specs.declared.line.Reading.{Reading}
 use Rattle.schedule_log.specs.declared.line.Reading.TheVariants as Reading_is
 use Rattle.schedule_log.specs.declared.line.BadLine.{BadLine}
 use Rattle.schedule_log.specs.declared.fed.Fed.TheVariants as Fed_is
-use Rattle.schedule_log.specs.Findings.{Finding, Asks, Fails, AreOnChip, Progress, finds, found_from, found_then, shown, answer_at, unless_bad}
+use Rattle.schedule_log.specs.Findings.{Finding, Asks, Fails, AreOnChip, Progress, finds, found_from, found_then, found_in, answer_at, unless_bad}
 use Rattle.schedule_log.specs.Grammar.{reading, blank_or_worded, worded, counted, is_on_chip, has_form, without_return}
 use Rattle.schedule_log.specs.Schedule.{judged_lines, count_of}
 
@@ -51,8 +51,8 @@ asked_on harts cores used u a count [] is on = cc
 asked_on harts cores used u a count (Asks b many ∷ later) is on = let same : b ≡ a = cc in subst (λ x. IsTrue (is_on_chip harts cores x)) same on.0
 asked_on harts cores used u a count (Fails line why ∷ later) is on = cc
 
-pub fed_on : (p : Progress) (piece : List ℕ) (used u : ℕ) (a : Actor) (count : ℕ) → Fed_is.Events a count used ≡ answer_at u (shown p piece) → IsTrue (is_on_chip p.harts p.cores a)
-fed_on p piece used u a count is = asked_on p.harts p.cores used u a count (shown p piece) is (finds_on true p piece)
+pub fed_on : (p : Progress) (piece : List ℕ) (used u : ℕ) (a : Actor) (count : ℕ) → Fed_is.Events a count used ≡ answer_at u (found_in p piece) → IsTrue (is_on_chip p.harts p.cores a)
+fed_on p piece used u a count is = asked_on p.harts p.cores used u a count (found_in p piece) is (finds_on true p piece)
 
 pub last_on : (p : Progress) (a : Actor) (count : ℕ) → Asks a count ∷ [] ≡ finds false p [] → IsTrue (is_on_chip p.harts p.cores a)
 last_on p a count is = (subst (AreOnChip p.harts p.cores) (sym is) (finds_on false p [])).0

@@ -8,7 +8,7 @@ use Rattle.schedule_log.specs.declared.fed.Fed.{Fed}
 use Rattle.schedule_log.specs.declared.fed.Fed.TheVariants as Fed_is
 use Rattle.schedule_log.specs.Schedule.{judged_lines}
 use Rattle.schedule_log.specs.Grammar.{reading}
-use Rattle.schedule_log.specs.Findings.{Finding, Asks, Fails, Progress, answer_at, finds, found_from, found_then, shown, unless_bad}
+use Rattle.schedule_log.specs.Findings.{Finding, Asks, Fails, Progress, answer_at, finds, found_from, found_then, found_in, unless_bad}
 
 -- a bad line that comes first comes last
 abbrev EndsAtBad : List Finding → Type 0
@@ -29,7 +29,7 @@ bad_ends : (bad : Option BadLine) (found : List Finding) → EndsAtBad found →
 bad_ends None found ends = ends
 bad_ends (Some bad) found ends = refl
 
-shown_ends : (s : Progress) (piece : List ℕ) → EndsAtBad (shown s piece)
+shown_ends : (s : Progress) (piece : List ℕ) → EndsAtBad (found_in s piece)
 unfolding finds
 shown_ends s piece = bad_ends s.bad _ (lines_end s.harts s.cores (s.ended + 1) (judged_lines true (s.begun ++ piece)))
 
@@ -44,9 +44,9 @@ bad_by_first r (Asks actor count ∷ later) used ends is line why = ((λ bad. ab
 bad_by_first r (Fails number cause ∷ later) used ends is line why = ((λ bad. cc), (λ first. cc))
 
 -- more is wanted exactly where the piece shows nothing
-pub wants_more : (s : Progress) (piece : List ℕ) (r : Fed) (used whole : ℕ) → r ≡ answer_at used (shown s piece) → (shown s piece ≡ [] → used ≡ whole) → (r ≡ Fed_is.More whole) ↔ (shown s piece ≡ [])
-wants_more s piece r used whole is all = more_by r (shown s piece) used whole is all
+pub wants_more : (s : Progress) (piece : List ℕ) (r : Fed) (used whole : ℕ) → r ≡ answer_at used (found_in s piece) → (found_in s piece ≡ [] → used ≡ whole) → (r ≡ Fed_is.More whole) ↔ (found_in s piece ≡ [])
+wants_more s piece r used whole is all = more_by r (found_in s piece) used whole is all
 
 -- a bad line is told exactly where it is the first thing that the piece shows
-pub tells_bad : (s : Progress) (piece : List ℕ) (r : Fed) (used : ℕ) → r ≡ answer_at used (shown s piece) → (line why : ℕ) → (r ≡ Fed_is.Bad line why) ↔ (shown s piece ≡ Fails line why ∷ [])
-tells_bad s piece r used is line why = bad_by_first r (shown s piece) used (shown_ends s piece) is line why
+pub tells_bad : (s : Progress) (piece : List ℕ) (r : Fed) (used : ℕ) → r ≡ answer_at used (found_in s piece) → (line why : ℕ) → (r ≡ Fed_is.Bad line why) ↔ (found_in s piece ≡ Fails line why ∷ [])
+tells_bad s piece r used is line why = bad_by_first r (found_in s piece) used (shown_ends s piece) is line why

@@ -11,7 +11,7 @@ use Rattle.schedule_log.specs.declared.entry.Entry.{Entry}
 use Rattle.schedule_log.specs.declared.entry.Entry.TheVariants.{Step, Waits, Idle, Held, Open, Lock, Spec, Commit, Back, Flush, Kern}
 use Rattle.schedule_log.specs.declared.entry_reading.TryEnd.{TryEnd}
 use Rattle.schedule_log.specs.Texts.{actor_text, end_text, text_of, IsEnd, IsEntry}
-use Rattle.schedule_log.specs.EntryReading.{acts_in, actor_in, cause_in, committed, digit_in, end_after, end_in, entry_at, entry_by, last_two, taken_back}
+use Rattle.schedule_log.specs.EntryReading.{acts_in, actor_in, cause_in, commit_entry, digit_in, end_after, end_in, entry_in, entry_by, last_two, taken_back}
 use Rattle.schedule_log.proofs.EntryReadingLemmas.{acts_read, acts_words, actor_read, actor_words, and_true, cause_read, cause_words, chained, digit_read, digit_text, mapped, pick}
 
 -- the text after a core and a space
@@ -126,7 +126,7 @@ entry_words letter rest entry h =
     pick (letter == 111) h (λ is x. numbered letter 111 4 rest entry Open (omega arith) is (λ n. refl) (λ n below. below) x) (λ _ h.
     pick (letter == 108) h (λ is x. numbered letter 108 4 rest entry Lock (omega arith) is (λ n. refl) (λ n below. below) x) (λ _ h.
     pick (letter == 112) h (λ is x. numbered letter 112 4 rest entry Spec (omega arith) is (λ n. refl) (λ n below. below) x) (λ _ h.
-    pick (letter == 99) h (λ is x. mapped committed (end_in rest) x (λ e found made.
+    pick (letter == 99) h (λ is x. mapped commit_entry (end_in rest) x (λ e found made.
     let w = end_words rest e found in
     subst (IsLineOf letter rest) made (record { words = lettered letter 99 rest (end_text e.core e.acts e.cause) is w.words; fits = w.fits }))) (λ _ h.
     pick (letter == 114) h (λ is x. mapped taken_back (end_in rest) x (λ e found made.
@@ -136,7 +136,7 @@ entry_words letter rest entry h =
     pick (letter == 107) h (λ is x. numbered letter 107 4 rest entry Kern (omega arith) is (λ n. refl) (λ n below. below) x) (λ _ h. absurd (cc))))))))))))
 
 -- an entry is read from its text
-pub entry_read : (entry : Entry) → IsEntry entry → entry_at (text_of entry) ≡ Some entry
+pub entry_read : (entry : Entry) → IsEntry entry → entry_in (text_of entry) ≡ Some entry
 entry_read (Step h) fits = ap (option_map Step) (digit_read 8 h (omega arith) fits)
 entry_read (Waits h) fits = ap (option_map Waits) (digit_read 8 h (omega arith) fits)
 entry_read (Idle a) fits = ap (option_map Idle) (actor_read a fits)
@@ -144,7 +144,7 @@ entry_read (Held a) fits = ap (option_map Held) (actor_read a fits)
 entry_read (Open j) fits = ap (option_map Open) (digit_read 4 j (omega arith) fits)
 entry_read (Lock j) fits = ap (option_map Lock) (digit_read 4 j (omega arith) fits)
 entry_read (Spec j) fits = ap (option_map Spec) (digit_read 4 j (omega arith) fits)
-entry_read (Commit j n e) fits = ap (option_map committed) (end_read j n e fits)
+entry_read (Commit j n e) fits = ap (option_map commit_entry) (end_read j n e fits)
 entry_read (Back j n e) fits = ap (option_map taken_back) (end_read j n e fits)
 entry_read (Flush j) fits = ap (option_map Flush) (digit_read 4 j (omega arith) fits)
 entry_read (Kern j) fits = ap (option_map Kern) (digit_read 4 j (omega arith) fits)
@@ -152,7 +152,7 @@ entry_read (Kern j) fits = ap (option_map Kern) (digit_read 4 j (omega arith) fi
 -- two entries never have one text
 pub one_entry : (first second : Entry) → IsEntry first → IsEntry second → text_of first ≡ text_of second → first ≡ second
 one_entry first second fits also same =
-    let both : Some first ≡ Some second = sym (entry_read first fits) ∙ ap entry_at same ∙ entry_read second also in
+    let both : Some first ≡ Some second = sym (entry_read first fits) ∙ ap entry_in same ∙ entry_read second also in
     cc
 
 if_some : (o : Option Entry) (P : Entry → Type 0) → ((e : Entry) → o ≡ Some e → P e) → IfSome o P
@@ -175,7 +175,7 @@ line_fits line result is = if_some result IsEntry (λ e found. (entry_words (sli
 pub line_read : (line : List ℕ) (result : Option Entry) → slice_index line 1 ≡ 32 → result ≡ entry_by (slice_index line 0) (drop 2 line) → (e : Entry) → IsEntry e → text_of e ≡ line → result ≡ Some e
 line_read line result space is e fits words =
     let same : (slice_index line 1 == 32) ≡ true = grind (arith, nat_tests) in
-    let at : entry_at line ≡ Some e = ap entry_at (sym words) ∙ entry_read e fits in
+    let at : entry_in line ≡ Some e = ap entry_in (sym words) ∙ entry_read e fits in
     is ∙ rw same at at
 
 -- what follows a place, as the code takes it

@@ -4,7 +4,7 @@ use Rattle.std.specs.Prelude.{Some, None}
 use Rattle.std.specs.List.{list_all, list_any}
 use Rattle.std.proofs.lemmas.Bool.Decides.{nat_tests}
 use Rattle.conda_base.specs.Digits.{is_digit, number_after}
-use Rattle.schedule_log.specs.Schedule.{begins_above_zero, count_of, is_feed, onto_first, ended_lines, last_part}
+use Rattle.schedule_log.specs.Schedule.{begins_above_zero, count_of, is_feed, onto_first_line, ended_lines, last_part}
 
 or_false : (a b : Bool) → (a || b) ≡ false → (a ≡ false) × (b ≡ false)
 or_false true b h = cc
@@ -39,7 +39,7 @@ pub ended_lines_at : (line text : List ℕ) → list_any is_feed line ≡ false 
 ended_lines_at [] text none = refl
 ended_lines_at (byte ∷ line) text none =
     let parts = or_false (is_feed byte) (list_any is_feed line) none in
-    rw (parts.0) (ap (onto_first byte) (ended_lines_at line text parts.1))
+    rw (parts.0) (ap (onto_first_line byte) (ended_lines_at line text parts.1))
 
 any_feed_at : (line text : List ℕ) → list_any is_feed (line ++ 10 ∷ text) ≡ true
 any_feed_at [] text = refl
@@ -53,7 +53,7 @@ pub ended_lines_none : (text : List ℕ) → list_any is_feed text ≡ false →
 ended_lines_none [] none = refl
 ended_lines_none (byte ∷ text) none =
     let parts = or_false (is_feed byte) (list_any is_feed text) none in
-    rw (parts.0) (ap (onto_first byte) (ended_lines_none text parts.1))
+    rw (parts.0) (ap (onto_first_line byte) (ended_lines_none text parts.1))
 
 pub last_part_none : (text : List ℕ) → list_any is_feed text ≡ false → last_part text ≡ text
 last_part_none [] none = refl

@@ -10,7 +10,7 @@ use Rattle.schedule_log.specs.declared.line.Reading.{Reading}
 use Rattle.schedule_log.specs.declared.line.Reading.TheVariants as Reading_is
 use Rattle.schedule_log.specs.Schedule.{is_feed, is_last_line}
 use Rattle.schedule_log.specs.Grammar.{reading}
-use Rattle.schedule_log.specs.Findings.{Finding, Asks, Fails, Progress, shown, answer_at, Feeds, IsBegun, feeds_in, finds}
+use Rattle.schedule_log.specs.Findings.{Finding, Asks, Fails, Progress, found_in, answer_at, Feeds, IsBegun, feeds_in, finds}
 use Rattle.schedule_log.specs.Steps.{after_line, after_byte, said_at}
 use Rattle.schedule_log.specs.declared.fed.Fed.TheVariants as Fed_is
 use Rattle.schedule_log.proofs.FeedLemmas.{any_more, judged_part, feeds_join, feeds_byte}
@@ -86,8 +86,8 @@ walks_on start s part byte w is =
     }
 
 -- what a piece shows, after a part of it
-pub shown_after : (start t : Progress) (piece : List ℕ) (u : ℕ) (given : List Finding) → Feeds start (take u piece) given t → shown start piece ≡ given ++ shown t (drop u piece)
-shown_after start t piece u given f = ap (shown start) (sym (take-append-drop u piece)) ∙ f.whole true (drop u piece)
+pub shown_after : (start t : Progress) (piece : List ℕ) (u : ℕ) (given : List Finding) → Feeds start (take u piece) given t → found_in start piece ≡ given ++ found_in t (drop u piece)
+shown_after start t piece u given f = ap (found_in start) (sym (take-append-drop u piece)) ∙ f.whole true (drop u piece)
 
 -- a line with events is ended by a line feed
 pub events_end : (s : Progress) (byte : ℕ) (actor : Actor) (count : ℕ) → said_at s byte ≡ Reading_is.Events actor count → byte ≡ 10
@@ -115,7 +115,7 @@ walks_events start s part byte actor count w is =
       ended = omega (arith, grows.ended, w.ended, feeds_in_more part byte);
     }
 
-pub answer_events : (start t : Progress) (piece : List ℕ) (u : ℕ) (actor : Actor) (count : ℕ) → Feeds start (take u piece) (Asks actor count ∷ []) t → Fed_is.Events actor count u ≡ answer_at u (shown start piece)
+pub answer_events : (start t : Progress) (piece : List ℕ) (u : ℕ) (actor : Actor) (count : ℕ) → Feeds start (take u piece) (Asks actor count ∷ []) t → Fed_is.Events actor count u ≡ answer_at u (found_in start piece)
 answer_events start t piece u actor count f = sym (ap (answer_at u) (shown_after start t piece u (Asks actor count ∷ []) f))
 
 -- a bad line is all that is found after it
@@ -164,23 +164,23 @@ walks_bad start s piece i byte why w next is =
     let whole : Feeds start (take (i + 1) piece ++ drop (i + 1) piece) [] t = feeds_join start t t (take (i + 1) piece) (drop (i + 1) piece) [] [] same (feeds_bad t _ (drop (i + 1) piece) (bad_state s byte why is)) in
     subst (λ text. Feeds start text [] t) (take-append-drop (i + 1) piece) whole
 
-pub answer_bad : (start t : Progress) (piece : List ℕ) (u line why : ℕ) → Feeds start piece [] t → t.bad ≡ Some (record { line = line; why = why }) → Fed_is.Bad line why ≡ answer_at u (shown start piece)
+pub answer_bad : (start t : Progress) (piece : List ℕ) (u line why : ℕ) → Feeds start piece [] t → t.bad ≡ Some (record { line = line; why = why }) → Fed_is.Bad line why ≡ answer_at u (found_in start piece)
 answer_bad start t piece u line why f is =
-    let shows : shown start piece ≡ Fails line why ∷ [] = ap (shown start) (sym (append-nil piece)) ∙ f.whole true [] ∙ bad_finds true t (record { line = line; why = why }) [] is in
+    let shows : found_in start piece ≡ Fails line why ∷ [] = ap (found_in start) (sym (append-nil piece)) ∙ f.whole true [] ∙ bad_finds true t (record { line = line; why = why }) [] is in
     rw shows refl
 
 -- a line begun shows nothing yet
-pub shows_nothing : (s : Progress) → s.bad ≡ None → IsBegun s.begun → shown s [] ≡ []
+pub shows_nothing : (s : Progress) → s.bad ≡ None → IsBegun s.begun → found_in s [] ≡ []
 unfolding finds
 shows_nothing s good begun =
     let no_part : is_last_line true s.begun ≡ false = grind (arith, nat_tests, begun.short) in
     rw good (rw (append-nil s.begun) (rw (judged_part true s.begun begun.no_feed) (rw no_part refl)))
 
-pub shows_none : (start s : Progress) (piece : List ℕ) → Feeds start piece [] s → s.bad ≡ None → IsBegun s.begun → shown start piece ≡ []
+pub shows_none : (start s : Progress) (piece : List ℕ) → Feeds start piece [] s → s.bad ≡ None → IsBegun s.begun → found_in start piece ≡ []
 shows_none start s piece f good begun =
-    ap (shown start) (sym (append-nil piece)) ∙ f.whole true [] ∙ shows_nothing s good begun
+    ap (found_in start) (sym (append-nil piece)) ∙ f.whole true [] ∙ shows_nothing s good begun
 
-pub answer_more : (start s : Progress) (piece : List ℕ) (u : ℕ) → Feeds start piece [] s → s.bad ≡ None → IsBegun s.begun → Fed_is.More u ≡ answer_at u (shown start piece)
+pub answer_more : (start s : Progress) (piece : List ℕ) (u : ℕ) → Feeds start piece [] s → s.bad ≡ None → IsBegun s.begun → Fed_is.More u ≡ answer_at u (found_in start piece)
 answer_more start s piece u f good begun = rw (shows_none start s piece f good begun) refl
 
 -- a part of a piece has no more line feeds than its length says

@@ -35,8 +35,8 @@ end_after core text = if nat_le 2 (length text) && (slice_index text (last_two t
 abbrev pub end_in : List ℕ → Option TryEnd
 end_in text = if slice_index text 1 == 32 then option_and_then (λ core. end_after core (drop 2 text)) (digit_in 4 (take 1 text)) else None
 
-abbrev pub committed : TryEnd → Entry
-committed end = Commit end.core end.acts end.cause
+abbrev pub commit_entry : TryEnd → Entry
+commit_entry end = Commit end.core end.acts end.cause
 
 abbrev pub taken_back : TryEnd → Entry
 taken_back end = Back end.core end.acts end.cause
@@ -51,11 +51,11 @@ entry_by letter rest =
     if letter == 111 then option_map Open (digit_in 4 rest) else (
     if letter == 108 then option_map Lock (digit_in 4 rest) else (
     if letter == 112 then option_map Spec (digit_in 4 rest) else (
-    if letter == 99 then option_map committed (end_in rest) else (
+    if letter == 99 then option_map commit_entry (end_in rest) else (
     if letter == 114 then option_map taken_back (end_in rest) else (
     if letter == 102 then option_map Flush (digit_in 4 rest) else (
     if letter == 107 then option_map Kern (digit_in 4 rest) else None))))))))))
 
 -- the entry of a line
-abbrev pub entry_at : List ℕ → Option Entry
-entry_at line = if slice_index line 1 == 32 then entry_by (slice_index line 0) (drop 2 line) else None
+abbrev pub entry_in : List ℕ → Option Entry
+entry_in line = if slice_index line 1 == 32 then entry_by (slice_index line 0) (drop 2 line) else None

@@ -62,8 +62,8 @@ unfoldable pub finds : Bool → Progress → List ℕ → List Finding
 finds more progress text = unless_bad progress.bad (found_from progress.harts progress.cores (progress.ended + 1) (judged_lines more (progress.begun ++ text)))
 
 -- what a piece shows, whatever comes after it
-abbrev pub shown : Progress → List ℕ → List Finding
-shown progress piece = finds true progress piece
+abbrev pub found_in : Progress → List ℕ → List Finding
+found_in progress piece = finds true progress piece
 
 -- what a reader finds where nothing follows
 abbrev pub left_over : Progress → List Finding
@@ -107,7 +107,7 @@ answer_at used (Fails line why ∷ later) = Fed_is.Bad line why
 abbrev pub IsUsed : Progress → Fed → List ℕ → Type 0
 IsUsed old (Fed_is.Events actor count used) piece =
     (slice_get piece (used - 1) ≡ Some 10) × (0 < used) × (used ≤ length piece)
-    × (shown old (take (used - 1) piece) ≡ [])
+    × (found_in old (take (used - 1) piece) ≡ [])
 IsUsed old (Fed_is.More used) piece = used ≡ length piece
 IsUsed old (Fed_is.Bad line why) piece = Unit {0}
 

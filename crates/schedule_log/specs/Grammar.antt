@@ -17,12 +17,12 @@ abbrev pub without_return : List ℕ → List ℕ
 without_return line = if ends_in_return line then take (length line - 1) line else line
 
 -- h or n
-abbrev pub is_kind : ℕ → Bool
-is_kind byte = (byte == 104) || (byte == 110)
+abbrev pub is_actor_letter : ℕ → Bool
+is_actor_letter byte = (byte == 104) || (byte == 110)
 
 -- h or n, one digit, one space, and one or more digits
 abbrev pub has_form : List ℕ → Bool
-has_form text = nat_le 4 (length text) && is_kind (slice_index text 0) && is_digit (slice_index text 1) && (slice_index text 2 == 32) && list_all is_digit (drop 3 text)
+has_form text = nat_le 4 (length text) && is_actor_letter (slice_index text 0) && is_digit (slice_index text 1) && (slice_index text 2 == 32) && list_all is_digit (drop 3 text)
 
 -- the hart or core that a letter and a digit name
 abbrev pub actor_of : ℕ → ℕ → Actor

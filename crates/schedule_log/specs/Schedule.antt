@@ -21,14 +21,14 @@ abbrev pub is_feed : ℕ → Bool
 is_feed byte = byte == 10
 
 -- a byte more at the front of the first line
-abbrev pub onto_first : ℕ → List (List ℕ) → List (List ℕ)
-onto_first byte [] = []
-onto_first byte (line ∷ lines) = (byte ∷ line) ∷ lines
+abbrev pub onto_first_line : ℕ → List (List ℕ) → List (List ℕ)
+onto_first_line byte [] = []
+onto_first_line byte (line ∷ lines) = (byte ∷ line) ∷ lines
 
 -- the lines that end in a line feed, which is no part of them
 abbrev pub ended_lines : List ℕ → List (List ℕ)
 ended_lines [] = []
-ended_lines (byte ∷ text) = if is_feed byte then [] ∷ ended_lines text else onto_first byte (ended_lines text)
+ended_lines (byte ∷ text) = if is_feed byte then [] ∷ ended_lines text else onto_first_line byte (ended_lines text)
 
 -- what follows the last line feed
 abbrev pub last_part : List ℕ → List ℕ

@@ -2,7 +2,7 @@
 ghost use Rattle.std.specs.Prelude.{◌≡◌, ◌≤◌, Some, IfSome, length};
 ghost use Rattle.schedule_log.specs.declared.entry.Entry.{Entry};
 ghost use Rattle.schedule_log.specs.Texts.{text_of, IsEntry};
-ghost use Rattle.schedule_log.specs.EntryReading.{acts_in, actor_in, cause_in, committed, digit_in, end_after, end_in, entry_at, entry_by, taken_back};
+ghost use Rattle.schedule_log.specs.EntryReading.{acts_in, actor_in, cause_in, commit_entry, digit_in, end_after, end_in, entry_in, entry_by, taken_back};
 
 use crate::count::read_count;
 use crate::entry::Entry;

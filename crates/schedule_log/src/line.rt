@@ -1,6 +1,6 @@
 // One line of a schedule.
 ghost use Rattle.std.specs.Prelude.{◌≡◌, ◌≤◌, IsTrue, length};
-ghost use Rattle.schedule_log.specs.Grammar.{actor_of, has_form, is_kind, is_on_chip, reading, without_return, worded};
+ghost use Rattle.schedule_log.specs.Grammar.{actor_of, has_form, is_actor_letter, is_on_chip, reading, without_return, worded};
 
 use crate::count::read_count;
 use conda_base::{Actor, are_digits, is_decimal};
@@ -45,7 +45,7 @@ fn trim_return(line: &[u8]) -> &[u8]
 }
 
 fn is_letter(byte: u8) -> bool
-    ensures { result ≡ is_kind byte }
+    ensures { result ≡ is_actor_letter byte }
 {
     byte == b'h' || byte == b'n'
 }

@@ -1,7 +1,7 @@
 // A schedule that comes in pieces.
 ghost use Rattle.std.specs.Prelude.{◌≡◌, ℕ, ◌+◌, ◌^◌, ◌<◌, ◌≤◌, ◌↔◌, [], ◌∷◌, length, take, None, IsSome};
 ghost use Rattle.schedule_log.specs.Schedule.{is_feed};
-ghost use Rattle.schedule_log.specs.Findings.{at_start, bad_by, feeds_in, given_by, left_over, said_by, shown, used_by, answer_at, Fails, Feeds, IsBegun, IsEndedWell, IsUsed};
+ghost use Rattle.schedule_log.specs.Findings.{at_start, bad_by, feeds_in, given_by, left_over, said_by, found_in, used_by, answer_at, Fails, Feeds, IsBegun, IsEndedWell, IsUsed};
 ghost use Rattle.schedule_log.specs.Steps.{after_byte, after_line, said_at};
 
 use crate::fed::{Fed, Last};
@@ -92,11 +92,11 @@ impl Reader {
         requires { self.old.ended < 2 ^ 62 }
         ensures feeds { Feeds self.old (take (used_by result piece.now) piece.now) (given_by result)
             self.new }
-        ensures answer { result ≡ answer_at (used_by result piece.now) (shown self.old piece.now) }
+        ensures answer { result ≡ answer_at (used_by result piece.now) (found_in self.old piece.now) }
         ensures used { IsUsed self.old result piece.now }
-        ensures more { (result ≡ Fed.More (length piece.now)) ↔ (shown self.old piece.now ≡ []) }
+        ensures more { (result ≡ Fed.More (length piece.now)) ↔ (found_in self.old piece.now ≡ []) }
         ensures bad_line { (line why : ℕ) →
-            (result ≡ Fed.Bad line why) ↔ (shown self.old piece.now ≡ Fails line why ∷ []) }
+            (result ≡ Fed.Bad line why) ↔ (found_in self.old piece.now ≡ Fails line why ∷ []) }
         ensures bad { self.new.bad ≡ bad_by result }
         ensures ended { self.new.bad ≡ None → self.new.ended
             ≡ self.old.ended + feeds_in (take (used_by result piece.now) piece.now) }

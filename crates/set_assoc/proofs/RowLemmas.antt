@@ -8,8 +8,8 @@ use Rattle.std.proofs.lemmas.List.FromFn.{length-map-range_with_len, get_or-map-
 use Rattle.std.proofs.lemmas.List.Edits.{get_or-remove_below, get_or-remove_above, length-remove}
 use Rattle.std.proofs.lemmas.Bool.{cases_eq, cases_lt, cases_Bool, eq-eqb, ne_eqb, eqb-true, lt-ltb}
 use Rattle.conda_base.specs.declared.Line.{Line}
-use Rattle.set_assoc.specs.Ages.{place_of_age, AreAges, IsRaised, IsLowered, entry_at, lines_by_age, StandOnce, IsAgedRow, IsPlaceOf, IsNowhere}
-use Rattle.set_assoc.specs.Places.{place_of, ArePlaces}
+use Rattle.set_assoc.specs.Ages.{place_of_age, AreAges, IsRaised, IsLowered, placed_entry, lines_by_age, StandOnce, IsAgedRow, IsPlaceOf, IsNowhere}
+use Rattle.set_assoc.specs.Places.{place_of_line, ArePlaces}
 use Rattle.set_assoc.specs.declared.placed.Placed.{Placed}
 use Rattle.set_assoc.specs.Entries.{lookup, without, replaced, touched, StandsAt}
 use Rattle.set_assoc.proofs.AgeLemmas.{place_is, AreAges-found, AreAges-raised, AreAges-lowered, AreAges-more, raised_place, raised_young, raised_old, lowered_place, lowered_young, lowered_old, more_place}
@@ -93,14 +93,14 @@ module _ {T : Type 0} where
 
 module _ {T : Type 0} where
   -- the lines by age, with any entry past the places
-  pub lines_are : (entries : List (Line × T)) (d : Line × T) (ages : List ℕ) (used : ℕ) (place : ℕ → ℕ) → used ≤ length entries → AreAges ages (length entries) place → lines_by_age entries ages used ≡ map (λ age. entry_at entries d (place age)) (range_with_len 0 used)
+  pub lines_are : (entries : List (Line × T)) (d : Line × T) (ages : List ℕ) (used : ℕ) (place : ℕ → ℕ) → used ≤ length entries → AreAges ages (length entries) place → lines_by_age entries ages used ≡ map (λ age. placed_entry entries d (place age)) (range_with_len 0 used)
   lines_are [] d ages used place filled are =
       let none : used ≡ 0 = omega arith in
       rw none refl
   lines_are (first ∷ rest) d ages used place filled are =
       let entries : List (Line × T) = first ∷ rest in
-      let f : ℕ → Line × Placed T = λ age. entry_at (first ∷ rest) first (place_of_age ages age) in
-      let h : ℕ → Line × Placed T = λ age. entry_at (first ∷ rest) d (place age) in
+      let f : ℕ → Line × Placed T = λ age. placed_entry (first ∷ rest) first (place_of_age ages age) in
+      let h : ℕ → Line × Placed T = λ age. placed_entry (first ∷ rest) d (place age) in
       same_lists (map f (range_with_len 0 used)) (map h (range_with_len 0 used))
       (length-map-range_with_len f 0 used ∙ sym (length-map-range_with_len h 0 used))
       (λ k x below.
@@ -109,7 +109,7 @@ module _ {T : Type 0} where
       let at : place_of_age ages k ≡ place k = place_is ages (length (first ∷ rest)) place k are inside in
       let there = (are.by_age k inside).0 in
       get_or-map-range_with_len f 0 used k k x small (omega arith) ∙
-      (ap (λ p. entry_at (first ∷ rest) first p) at ∙
+      (ap (λ p. placed_entry (first ∷ rest) first p) at ∙
       ap (λ e. (e.0, record { value = e.1; place = place k })) (get_or_default (first ∷ rest) (place k) first d there)) ∙
       sym (get_or-map-range_with_len h 0 used k k x small (omega arith)))
 
@@ -117,10 +117,10 @@ module _ {T : Type 0} where
   length-lines [] ages used filled = omega arith
   length-lines (first ∷ rest) ages used filled = length-map-range_with_len _ 0 used
 
-  pub line_at : (entries : List (Line × T)) (d : Line × T) (x : Line × Placed T) (ages : List ℕ) (used k : ℕ) (place : ℕ → ℕ) → used ≤ length entries → AreAges ages (length entries) place → k < used → get_or (lines_by_age entries ages used) k x ≡ entry_at entries d (place k)
+  pub line_at : (entries : List (Line × T)) (d : Line × T) (x : Line × Placed T) (ages : List ℕ) (used k : ℕ) (place : ℕ → ℕ) → used ≤ length entries → AreAges ages (length entries) place → k < used → get_or (lines_by_age entries ages used) k x ≡ placed_entry entries d (place k)
   line_at entries d x ages used k place filled are small =
       ap (λ es. get_or es k x) (lines_are entries d ages used place filled are) ∙
-      get_or-map-range_with_len (λ age. entry_at entries d (place age)) 0 used k k x small (omega arith)
+      get_or-map-range_with_len (λ age. placed_entry entries d (place age)) 0 used k k x small (omega arith)
 
   -- a place in use stands in the list, at its age
   pub stands_in_lines : (entries : List (Line × T)) (ages : List ℕ) (used : ℕ) (line : Line) (p : ℕ) → IsAgedRow entries ages used → IsPlaceOf entries ages used line p → StandsAt line (lines_by_age entries ages used) (get_or ages p 0)
@@ -137,7 +137,7 @@ module _ {T : Type 0} where
   pub lookup_in_lines : (entries : List (Line × T)) (d : Line × T) (ages : List ℕ) (used : ℕ) (line : Line) (p : ℕ) → IsAgedRow entries ages used → IsPlaceOf entries ages used line p → lookup line (lines_by_age entries ages used) ≡ Some (record { value = (get_or entries p d).1; place = p })
   lookup_in_lines entries d ages used line p is at =
       let a : ℕ = get_or ages p 0 in
-      let x : Line × Placed T = entry_at entries d p in
+      let x : Line × Placed T = placed_entry entries d p in
       let back = (is.aged.by_place p at.within).1 in
       (stands_in_lines entries ages used line p is at).found x ∙
       ap (λ e. Some e.1) (line_at entries d x ages used a (place_of_age ages) is.filled is.aged at.young) ∙
@@ -166,7 +166,7 @@ module _ {T : Type 0} where
   back_at x xs k i d inside after = get_or-remove_above xs i d k after inside ∙ ap (λ n. get_or xs n d) (add-one k)
 
 module _ {T : Type 0} where
-  raised_lines : (entries : List (Line × T)) (d : Line × T) (ages new : List ℕ) (used p : ℕ) → IsAgedRow entries ages used → p < length entries → get_or ages p 0 < used → IsRaised ages p new → lines_by_age entries new used ≡ entry_at entries d p ∷ remove (lines_by_age entries ages used) (get_or ages p 0)
+  raised_lines : (entries : List (Line × T)) (d : Line × T) (ages new : List ℕ) (used p : ℕ) → IsAgedRow entries ages used → p < length entries → get_or ages p 0 < used → IsRaised ages p new → lines_by_age entries new used ≡ placed_entry entries d p ∷ remove (lines_by_age entries ages used) (get_or ages p 0)
   raised_lines entries d ages new used p is within young raised =
       let a : ℕ = get_or ages p 0 in
       let old : List (Line × Placed T) = lines_by_age entries ages used in
@@ -176,10 +176,10 @@ module _ {T : Type 0} where
       let inside : a < length old = omega arith in
       let rest = length-remove old a inside in
       let now = length-lines entries new used is.filled in
-      same_lists (lines_by_age entries new used) (entry_at entries d p ∷ remove old a) (omega arith)
+      same_lists (lines_by_age entries new used) (placed_entry entries d p ∷ remove old a) (omega arith)
       (λ k x below. by_place k x (omega arith))
     where
-      by_place : (k : ℕ) (x : Line × Placed T) → k < used → get_or (lines_by_age entries new used) k x ≡ get_or (entry_at entries d p ∷ remove (lines_by_age entries ages used) (get_or ages p 0)) k x
+      by_place : (k : ℕ) (x : Line × Placed T) → k < used → get_or (lines_by_age entries new used) k x ≡ get_or (placed_entry entries d p ∷ remove (lines_by_age entries ages used) (get_or ages p 0)) k x
       by_place zero x small = line_at entries d x new used 0 (raised_place (place_of_age ages) p (get_or ages p 0)) is.filled (AreAges-raised ages new (length entries) p (place_of_age ages) is.aged within raised) small
       by_place (suc v) x small =
           let a : ℕ = get_or ages p 0 in
@@ -188,16 +188,16 @@ module _ {T : Type 0} where
           line_at entries d x new used (suc v) (raised_place (place_of_age ages) p a) is.filled (AreAges-raised ages new (length entries) p (place_of_age ages) is.aged within raised) small ∙
           ⊎_elim
           (λ (before : v < a).
-          ap (λ q. entry_at entries d q) (raised_young (place_of_age ages) p a v before) ∙
+          ap (λ q. placed_entry entries d q) (raised_young (place_of_age ages) p a v before) ∙
           sym (line_at entries d x ages used v (place_of_age ages) is.filled is.aged (omega arith)) ∙
-          sym (front_at (entry_at entries d p) (lines_by_age entries ages used) v a x inside before))
+          sym (front_at (placed_entry entries d p) (lines_by_age entries ages used) v a x inside before))
           (λ (after : a ≤ v).
-          ap (λ q. entry_at entries d q) (raised_old (place_of_age ages) p a (suc v) (omega arith)) ∙
+          ap (λ q. placed_entry entries d q) (raised_old (place_of_age ages) p a (suc v) (omega arith)) ∙
           sym (line_at entries d x ages used (suc v) (place_of_age ages) is.filled is.aged small) ∙
-          sym (back_at (entry_at entries d p) (lines_by_age entries ages used) v a x inside after))
+          sym (back_at (placed_entry entries d p) (lines_by_age entries ages used) v a x inside after))
           (cases_lt v a)
 
-  line_of_entry : (entries : List (Line × T)) (d : Line × T) (line : Line) (p : ℕ) → (get_or entries p d).0.0 ≡ line.0 → entry_at entries d p ≡ (line, record { value = (get_or entries p d).1; place = p })
+  line_of_entry : (entries : List (Line × T)) (d : Line × T) (line : Line) (p : ℕ) → (get_or entries p d).0.0 ≡ line.0 → placed_entry entries d p ≡ (line, record { value = (get_or entries p d).1; place = p })
   line_of_entry entries d line p same = ap (λ l. (l, record { value = (get_or entries p d).1; place = p })) (line_by_number _ line same)
 
   pub touched_lines : (entries : List (Line × T)) (ages new : List ℕ) (used : ℕ) (line : Line) (p : ℕ) → IsAgedRow entries ages used → IsPlaceOf entries ages used line p → IsRaised ages p new → lines_by_age entries new used ≡ touched line (lines_by_age entries ages used)
@@ -240,11 +240,11 @@ module _ {T : Type 0} where
       line_at (d ∷ rest) d x new (used - 1) k place fewer are small ∙
       ⊎_elim
       (λ (before : k < a).
-      ap (λ q. entry_at (d ∷ rest) d q) (lowered_young (place_of_age ages) p a (length (d ∷ rest)) k before) ∙
+      ap (λ q. placed_entry (d ∷ rest) d q) (lowered_young (place_of_age ages) p a (length (d ∷ rest)) k before) ∙
       sym (line_at (d ∷ rest) d x ages used k (place_of_age ages) is.filled is.aged (omega arith)) ∙
       sym (get_or-remove_below old a x k before inside))
       (λ (after : a ≤ k).
-      ap (λ q. entry_at (d ∷ rest) d q) (lowered_old (place_of_age ages) p a (length (d ∷ rest)) k after (omega arith)) ∙
+      ap (λ q. placed_entry (d ∷ rest) d q) (lowered_old (place_of_age ages) p a (length (d ∷ rest)) k after (omega arith)) ∙
       sym (line_at (d ∷ rest) d x ages used (suc k) (place_of_age ages) is.filled is.aged (omega arith)) ∙
       sym (get_or-remove_above old a x k after inside ∙ ap (λ i. get_or old i x) (add-one k)))
       (cases_lt k a)) ∙
@@ -281,7 +281,7 @@ module _ {T : Type 0} where
       ⊎_elim
       (λ (same : k ≡ a).
       let q : place_of_age ages k ≡ p = ap (place_of_age ages) same ∙ (is.aged.by_place p at.within).1 in
-      ap (λ i. entry_at new d i) q ∙ ap (λ e. (e.0, record { value = e.1; place = p })) (get_or-set_same entries p d d at.within) ∙
+      ap (λ i. placed_entry new d i) q ∙ ap (λ e. (e.0, record { value = e.1; place = p })) (get_or-set_same entries p d d at.within) ∙
       sym (ap (λ i. get_or (set old a y) i x) same ∙ get_or-set_same old a y x inside))
       (λ (other : k ≢ a).
       let q : place_of_age ages k ≢ p = λ e. other (sym there.1 ∙ ap (λ i. get_or ages i 0) e) in
@@ -322,7 +322,7 @@ module _ {T : Type 0} where
   place_of_found (Some v) p at = (v, refl, cc)
 
   -- what the place that the list shows tells of the places
-  pub place_told : (entries : List (Line × T)) (ages : List ℕ) (used : ℕ) (line : Line) (p : ℕ) → IsAgedRow entries ages used → place_of line (lines_by_age entries ages used) ≡ Some p → IsPlaceOf entries ages used line p
+  pub place_told : (entries : List (Line × T)) (ages : List ℕ) (used : ℕ) (line : Line) (p : ℕ) → IsAgedRow entries ages used → place_of_line line (lines_by_age entries ages used) ≡ Some p → IsPlaceOf entries ages used line p
   place_told [] ages used line p is at = absurd cc
   place_told (d ∷ rest) ages used line p is at =
       let seen = place_of_found (lookup line (lines_by_age (d ∷ rest) ages used)) p at in
@@ -330,7 +330,7 @@ module _ {T : Type 0} where
       let i : ℕ = there.0 in
       let small : i < used = rw (length-lines (d ∷ rest) ages used is.filled) at there.1 in
       let inside : i < length (d ∷ rest) = omega (arith, is.filled) in
-      let x : Line × Placed T = entry_at (d ∷ rest) d 0 in
+      let x : Line × Placed T = placed_entry (d ∷ rest) d 0 in
       let entry = line_at (d ∷ rest) d x ages used i (place_of_age ages) is.filled is.aged small in
       let same : place_of_age ages i ≡ p = sym (ap (λ e. e.1.place) entry) ∙ ap (λ v. v.place) (there.2 x).1 ∙ seen.2 in
       let back = is.aged.by_age i inside in
@@ -361,7 +361,7 @@ module _ {T : Type 0} where
       let inside : k < length entries = omega (arith, is.filled) in
       let there = (is.aged.by_age k inside).0 in
       line_at (entries ++ e ∷ []) e x (set ages n n) used k (more_place (place_of_age ages) n) filled (AreAges-opened entries e ages used is room) small ∙
-      ap (λ q. entry_at (entries ++ e ∷ []) e q) (more_is (place_of_age ages) n k inside) ∙
+      ap (λ q. placed_entry (entries ++ e ∷ []) e q) (more_is (place_of_age ages) n k inside) ∙
       ap (λ y. (y.0, record { value = y.1; place = place_of_age ages k })) (get_or_append_left entries (e ∷ []) e (place_of_age ages k) there) ∙
       sym (line_at entries e x ages used k (place_of_age ages) is.filled is.aged small))
 
@@ -424,7 +424,7 @@ module _ {T : Type 0} where
           let his = is.aged.by_age v (omega arith) in
           let other : place_of_age ages v ≢ place_of_age ages age = λ same. let e : v ≡ age = sym his.1 ∙ ap (λ i. get_or ages i 0) same ∙ there.1 in omega arith in
           line_at (set entries (place_of_age ages age) (line, value)) (line, value) x new (age + 1) (suc v) (raised_place (place_of_age ages) (place_of_age ages age) (get_or ages (place_of_age ages age) 0)) filled are small ∙
-          ap (λ i. entry_at (set entries (place_of_age ages age) (line, value)) (line, value) i) (raised_young (place_of_age ages) (place_of_age ages age) (get_or ages (place_of_age ages age) 0) v (omega (arith, there.1))) ∙
+          ap (λ i. placed_entry (set entries (place_of_age ages age) (line, value)) (line, value) i) (raised_young (place_of_age ages) (place_of_age ages age) (get_or ages (place_of_age ages age) 0) v (omega (arith, there.1))) ∙
           ap (λ e. (e.0, record { value = e.1; place = place_of_age ages v })) (get_or-set_other entries (place_of_age ages age) (place_of_age ages v) (line, value) (line, value) other) ∙
           sym (line_at entries (line, value) x ages used v (place_of_age ages) is.filled is.aged (omega arith)) ∙
           sym (get_or-take age (lines_by_age entries ages used) v x young)
@@ -476,9 +476,9 @@ module _ {T : Type 0} where
       ap (λ q. (get_or (first ∷ rest) q first).0.0) (ap (place_of_age ages) (sym front) ∙ back) ∙ at.has first)
 
   -- the entry of a way
-  pub entry_of_way : (entries : List (Line × T)) (d : Line × T) (ages : List ℕ) (used way : ℕ) → IsAgedRow entries ages used → way < used → Some (entry_at entries d (place_of_age ages way)) ≡ slice_get (lines_by_age entries ages used) way
+  pub entry_of_way : (entries : List (Line × T)) (d : Line × T) (ages : List ℕ) (used way : ℕ) → IsAgedRow entries ages used → way < used → Some (placed_entry entries d (place_of_age ages way)) ≡ slice_get (lines_by_age entries ages used) way
   entry_of_way entries d ages used way is small =
-      let x : Line × Placed T = entry_at entries d 0 in
+      let x : Line × Placed T = placed_entry entries d 0 in
       let within : way < length (lines_by_age entries ages used) = rw (length-lines entries ages used is.filled) small in
       sym (slice_get_within (lines_by_age entries ages used) way x within ∙
       ap (λ e. Some e) (line_at entries d x ages used way (place_of_age ages) is.filled is.aged small))

@@ -32,13 +32,13 @@ pub record IsLowered (old : List ℕ) (p n : ℕ) (new : List ℕ) : Type 0 wher
 
 module _ {T : Type 0} where
   -- the entry at a place; d is read only past the places
-  abbrev pub entry_at : List (Line × T) → Line × T → ℕ → Line × Placed T
-  entry_at entries d p = ((slice_index_or entries p d).0, placed (slice_index_or entries p d).1 p)
+  abbrev pub placed_entry : List (Line × T) → Line × T → ℕ → Line × Placed T
+  placed_entry entries d p = ((slice_index_or entries p d).0, placed (slice_index_or entries p d).1 p)
 
   -- the lines that a set is seen as: those of the ages 0 to used - 1
   abbrev pub lines_by_age : List (Line × T) → List ℕ → ℕ → List (Line × Placed T)
   lines_by_age [] ages used = []
-  lines_by_age (first ∷ rest) ages used = map (λ age. entry_at (first ∷ rest) first (place_of_age ages age)) (range_with_len 0 used)
+  lines_by_age (first ∷ rest) ages used = map (λ age. placed_entry (first ∷ rest) first (place_of_age ages age)) (range_with_len 0 used)
 
   -- what the place of a line that is there tells
   pub record IsPlaceOf (entries : List (Line × T)) (ages : List ℕ) (used : ℕ) (line : Line) (p : ℕ) : Type 0 where

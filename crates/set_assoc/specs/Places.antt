@@ -11,13 +11,13 @@ module _ {T : Type 0} where
   placed value place = record { value = value; place = place }
 
   -- the place of a line
-  abbrev pub place_of : Line → List (Line × Placed T) → Option ℕ
-  place_of line entries = option_map (λ kept. kept.place) (lookup line entries)
+  abbrev pub place_of_line : Line → List (Line × Placed T) → Option ℕ
+  place_of_line line entries = option_map (λ kept. kept.place) (lookup line entries)
 
   -- the places are below eight, and no two lines have one place
   pub record ArePlaces (entries : List (Line × Placed T)) : Type 0 where
-    pub below : (l : Line) (p : ℕ) → place_of l entries ≡ Some p → p < 8
-    pub apart : (l k : Line) (p : ℕ) → place_of l entries ≡ Some p → place_of k entries ≡ Some p → l.0 ≡ k.0
+    pub below : (l : Line) (p : ℕ) → place_of_line l entries ≡ Some p → p < 8
+    pub apart : (l k : Line) (p : ℕ) → place_of_line l entries ≡ Some p → place_of_line k entries ≡ Some p → l.0 ≡ k.0
 
   -- sets whose lines have places
   pub record ArePlacedSets (s : SetLists (Placed T)) : Type 0 where

@@ -17,7 +17,7 @@ ghost use Rattle.std.specs.Prelude.{
   IsTrue,
   replicate,
 };
-ghost use Rattle.set_assoc.specs.Places.{ArePlacedSets, place_of, placed};
+ghost use Rattle.set_assoc.specs.Places.{ArePlacedSets, place_of_line, placed};
 ghost use Rattle.set_assoc.specs.Entries.{without, replaced, touched};
 ghost use Rattle.set_assoc.specs.SetLists.{find, list_of, set_of, with_list};
 
@@ -88,7 +88,7 @@ impl<T: Copy> PlacedSets<T> {
 
     /// Gives the line at a place a new value. The order stays.
     pub fn replace(&mut self, line: Line, place: usize, value: T)
-        requires { place_of line (list_of self.old line) ≡ Some place }
+        requires { place_of_line line (list_of self.old line) ≡ Some place }
         ensures written { let list = replaced line (placed value place) (list_of self.old line) in
             self.new ≡ with_list self.old line list }
         ensures kept { ArePlacedSets self.new }
@@ -99,7 +99,7 @@ impl<T: Copy> PlacedSets<T> {
 
     /// Brings the line at a place to the front of its set.
     pub fn touch(&mut self, line: Line, place: usize)
-        requires { place_of line (list_of self.old line) ≡ Some place }
+        requires { place_of_line line (list_of self.old line) ≡ Some place }
         ensures front { self.new ≡ with_list self.old line (touched line (list_of self.old line)) }
         ensures kept { ArePlacedSets self.new }
     {
@@ -109,7 +109,7 @@ impl<T: Copy> PlacedSets<T> {
 
     /// Takes the line at a place out.
     pub fn remove(&mut self, line: Line, place: usize)
-        requires { place_of line (list_of self.old line) ≡ Some place }
+        requires { place_of_line line (list_of self.old line) ≡ Some place }
         ensures removed { let list = without line (list_of self.old line) in
             self.new ≡ with_list self.old line list }
         ensures kept { ArePlacedSets self.new }
@@ -207,7 +207,7 @@ mod tests {
     }
 
     fn assert_stands(rt: &impl Abort, sets: &PlacedSets<u8>, line: Line, place: usize)
-        ensures { place_of line (list_of sets.now line) ≡ Some place }
+        ensures { place_of_line line (list_of sets.now line) ≡ Some place }
     {
         assert_eq!(rt; sets.find(line).map(|kept| kept.place), Some(place));
     }

@@ -22,7 +22,7 @@ ghost use Rattle.std.specs.Prelude.{
 ghost use Rattle.std.specs.Vec.{vec_capacity};
 ghost use Rattle.set_assoc.specs.Entries.{lookup, without, replaced, touched};
 ghost use Rattle.set_assoc.specs.Ages.{IsLowered, IsNowhere, IsPlaceOf, IsRaised, place_of_age};
-ghost use Rattle.set_assoc.specs.Places.{ArePlaces, place_of, placed};
+ghost use Rattle.set_assoc.specs.Places.{ArePlaces, place_of_line, placed};
 
 use crate::placed::Placed;
 use conda_base::Line;
@@ -107,7 +107,7 @@ impl<T: Copy> Row<T> {
     }
 
     pub fn replace(&mut self, line: Line, place: usize, value: T)
-        requires { place_of line self.old ≡ Some place }
+        requires { place_of_line line self.old ≡ Some place }
         ensures written { self.new ≡ replaced line (placed value place) self.old }
         ensures places { ArePlaces self.new }
         ensures len { length self.new ≡ length self.old }
@@ -116,7 +116,7 @@ impl<T: Copy> Row<T> {
     }
 
     pub fn remove(&mut self, line: Line, place: usize)
-        requires { place_of line self.old ≡ Some place }
+        requires { place_of_line line self.old ≡ Some place }
         ensures removed { self.new ≡ without line self.old }
         ensures places { ArePlaces self.new }
         ensures len { length self.new ≤ length self.old }
@@ -127,7 +127,7 @@ impl<T: Copy> Row<T> {
     }
 
     pub fn touch(&mut self, line: Line, place: usize)
-        requires { place_of line self.old ≡ Some place }
+        requires { place_of_line line self.old ≡ Some place }
         ensures front { self.new ≡ touched line self.old }
         ensures places { ArePlaces self.new }
         ensures len { length self.new ≡ length self.old }

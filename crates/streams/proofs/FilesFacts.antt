@@ -12,7 +12,7 @@ use Rattle.streams.specs.declared.sinks.Sinks.{Sinks}
 use Rattle.streams.specs.Seen.{Seen, ShowsText, ShowsFront, Takes, Puts, fault_in}
 use Rattle.streams.specs.Holding.{SinkHolds, SinkHoldsFront}
 use Rattle.streams.specs.Sink.{SinkView, IsMade, text_in}
-use Rattle.streams.specs.Streaming.{is_of, has_sink, text_if, text_at, told_text, seen_over, seen_alone, AreMade, AreOpen, AreWhole, Gives, IsLed, HasFaultCause, added_to}
+use Rattle.streams.specs.Streaming.{is_sink_of, has_sink, text_if, text_at, told_text, seen_over, seen_alone, AreMade, AreOpen, AreWhole, Gives, IsLed, HasFaultCause, added_to}
 use Rattle.streams.proofs.StreamFacts.{role_tells, not_role, self_test, streaming_of_writing}
 
 -- what streams over a host show, from its parts
@@ -28,7 +28,7 @@ not_same {a = a} {b = b} test =
       | inr e ↦ e.1
     ]
 
-same_text : {s t : HostState} {from : Role} (w : Option SinkView) (r : Role) (other : List ℕ) → IsReading s t from → is_of w from ≡ false → text_if t w r other ≡ text_if s w r other
+same_text : {s t : HostState} {from : Role} (w : Option SinkView) (r : Role) (other : List ℕ) → IsReading s t from → is_sink_of w from ≡ false → text_if t w r other ≡ text_if s w r other
 same_text None r other p none = refl
 same_text (Some x) r other p none =
     ap (λ y. cond (index_of x.role == index_of r) (y.written ++ x.pending) other) (p.roles x.role (not_same none))
@@ -51,13 +51,13 @@ reads_seen {s = s} {t = t} from sinks p other =
     texts r =
         ap (λ b. cond b (text_at t sinks r) []) p.later.tells
         ∙ ap (λ x. cond s.tells x [])
-        (same_text sinks.first r (text_if t sinks.second r []) p (first_not (is_of sinks.first from) (is_of sinks.second from) other)
-        ∙ ap (text_if s sinks.first r) (same_text sinks.second r [] p (second_not (is_of sinks.first from) (is_of sinks.second from) other)))
+        (same_text sinks.first r (text_if t sinks.second r []) p (first_not (is_sink_of sinks.first from) (is_sink_of sinks.second from) other)
+        ∙ ap (text_if s sinks.first r) (same_text sinks.second r [] p (second_not (is_sink_of sinks.first from) (is_sink_of sinks.second from) other)))
 
 pub reads_open : {s t : HostState} (from : Role) (sinks : Sinks) → IsReading s t from → IsTrue (t.role from).opened → AreOpen s from sinks → AreOpen t from sinks
 reads_open {s = s} {t = t} from sinks p is before = record {
   opened = is;
-  made = makes sinks.first sinks.second before.made (first_not (is_of sinks.first from) (is_of sinks.second from) before.other) (second_not (is_of sinks.first from) (is_of sinks.second from) before.other);
+  made = makes sinks.first sinks.second before.made (first_not (is_sink_of sinks.first from) (is_sink_of sinks.second from) before.other) (second_not (is_sink_of sinks.first from) (is_sink_of sinks.second from) before.other);
   other = before.other;
 }
   where
@@ -69,7 +69,7 @@ reads_open {s = s} {t = t} from sinks p is before = record {
           file = λ told. ap (λ x. t.file x.name) same ∙ p.files (s.role q).name ∙ m.file (subst IsTrue p.later.tells told) ∙ ap (λ x. Some x.written) (sym same);
         }
 
-    makes : (u w : Option SinkView) → AreMade s (record { first = u; second = w }) → is_of u from ≡ false → is_of w from ≡ false → AreMade t (record { first = u; second = w })
+    makes : (u w : Option SinkView) → AreMade s (record { first = u; second = w }) → is_sink_of u from ≡ false → is_sink_of w from ≡ false → AreMade t (record { first = u; second = w })
     makes None None m d e = record { first = tt; second = tt; apart = tt }
     makes None (Some y) m d e = record { first = tt; second = keeps y.role (not_same e) m.second; apart = tt }
     makes (Some x) None m d e = record { first = keeps x.role (not_same d) m.first; second = tt; apart = tt }
@@ -114,14 +114,14 @@ gives_either f g from (Err e) ok err before = gives_open from err before
 text_same : {s t : HostState} {a b : Sinks} {f : Role → List ℕ} (r : Role) → Gives s t a b f → f r ≡ [] → told_text t b r ≡ told_text s a r
 text_same {s = s} {t = t} {a = a} {b = b} {f = f} r p nothing = rw (p.rest.later.tells) (go s.tells refl (has_sink a r) refl)
   where
-    none : (x : HostState) (w : Option SinkView) → is_of w r ≡ false → (other : List ℕ) → text_if x w r other ≡ other
+    none : (x : HostState) (w : Option SinkView) → is_sink_of w r ≡ false → (other : List ℕ) → text_if x w r other ≡ other
     none x None not other = refl
     none x (Some y) not other = cond-false (index_of y.role == index_of r) (text_in x y) other not
 
     not_there : (x : HostState) (sinks : Sinks) → has_sink sinks r ≡ false → text_at x sinks r ≡ []
     not_there x sinks not =
-        none x sinks.first (first_not (is_of sinks.first r) (is_of sinks.second r) not) (text_if x sinks.second r [])
-        ∙ none x sinks.second (second_not (is_of sinks.first r) (is_of sinks.second r) not) []
+        none x sinks.first (first_not (is_sink_of sinks.first r) (is_sink_of sinks.second r) not) (text_if x sinks.second r [])
+        ∙ none x sinks.second (second_not (is_sink_of sinks.first r) (is_sink_of sinks.second r) not) []
 
     go : (told : Bool) → s.tells ≡ told → (has : Bool) → has_sink a r ≡ has → cond told (text_at t b r) [] ≡ cond told (text_at s a r) []
     go false e has is = refl
@@ -200,7 +200,7 @@ one_file s x r e made told = (
   ap (λ q. (s.role q).written ++ x.pending) e,
 )
 
-second_file : (s : HostState) (u w : Option SinkView) (r : Role) → ((x : HostState) (other : List ℕ) → text_if x u r other ≡ other) → AreMade s (record { first = u; second = w }) → IsTrue s.tells → IsTrue (is_of w r)
+second_file : (s : HostState) (u w : Option SinkView) (r : Role) → ((x : HostState) (other : List ℕ) → text_if x u r other ≡ other) → AreMade s (record { first = u; second = w }) → IsTrue s.tells → IsTrue (is_sink_of w r)
     → SinkFile s (record { first = u; second = w }) r
 second_file s u None r other made told is = cc
 second_file s u (Some y) r other made told is =
@@ -216,7 +216,7 @@ second_file s u (Some y) r other made told is =
       | inr e ↦ let no : true ≡ false = sym is ∙ e.0 in cc
     ]
 
-pub sink_file : (s : HostState) (u w : Option SinkView) (r : Role) → AreMade s (record { first = u; second = w }) → IsTrue s.tells → IsTrue (is_of u r || is_of w r) → SinkFile s (record { first = u; second = w }) r
+pub sink_file : (s : HostState) (u w : Option SinkView) (r : Role) → AreMade s (record { first = u; second = w }) → IsTrue s.tells → IsTrue (is_sink_of u r || is_sink_of w r) → SinkFile s (record { first = u; second = w }) r
 sink_file s None w r made told is = second_file s None w r (λ x other. refl) made told is
 sink_file s (Some x) w r made told is =
     elim (role_tells x.role r) [
@@ -229,7 +229,7 @@ sink_file s (Some x) w r made told is =
             whole = λ h. h.first;
           }
       | inr e ↦
-          second_file s (Some x) w r (λ y other. cond-false (index_of x.role == index_of r) (text_in y x) other e.0) made told (sym (ap (λ b. b || is_of w r) e.0) ∙ is)
+          second_file s (Some x) w r (λ y other. cond-false (index_of x.role == index_of r) (text_in y x) other e.0) made told (sym (ap (λ b. b || is_sink_of w r) e.0) ∙ is)
     ]
 
 pub whole_holds : (s : HostState) (from : Role) (a : Sinks) (r : Role) (text : List ℕ) → AreMade s a → AreWhole a → ShowsText (seen_over s from a) r text → SinkHolds s (has_sink a) r text

@@ -14,7 +14,7 @@ use Rattle.streams.specs.Calls.{made_refl, made_trans}
 use Rattle.streams.specs.Seen.{fault_in}
 use Rattle.streams.specs.Sink.{SinkView, AddsIf, IsMade, text_in}
 use Rattle.conda_host.specs.State.{RoseForAll}
-use Rattle.streams.specs.Streaming.{is_of, has_sink, text_if, text_at, HaveTwoFiles, AreMade, StaysMade, IsWritingTo, IsStreaming, Gives, added_to, HasFaultCause}
+use Rattle.streams.specs.Streaming.{is_sink_of, has_sink, text_if, text_at, HaveTwoFiles, AreMade, StaysMade, IsWritingTo, IsStreaming, Gives, added_to, HasFaultCause}
 
 -- ---- roles
 
@@ -100,9 +100,9 @@ or_true false = refl
 
 -- what a call gives that adds bytes to one sink
 abbrev pub given_if : Option SinkView → List ℕ → Role → List ℕ
-given_if sink bytes r = if is_of sink r then bytes else []
+given_if sink bytes r = if is_sink_of sink r then bytes else []
 
-pub given_role : (sink : Option SinkView) (role : Role) (bytes : List ℕ) → is_of sink role ≡ true → (r : Role) → given_if sink bytes r ≡ added_to role bytes r
+pub given_role : (sink : Option SinkView) (role : Role) (bytes : List ℕ) → is_sink_of sink role ≡ true → (r : Role) → given_if sink bytes r ≡ added_to role bytes r
 given_role None role bytes is r = cc
 given_role (Some sink) role bytes is r =
     elim (role_tells sink.role role) [
@@ -111,7 +111,7 @@ given_role (Some sink) role bytes is r =
     ]
 
 pub given_nothing : (sink : Option SinkView) (r : Role) → given_if sink [] r ≡ []
-given_nothing sink r = elim (is_of sink r) as (λ b. cond {A = List ℕ} b [] [] ≡ []) [ true ↦ refl | false ↦ refl ]
+given_nothing sink r = elim (is_sink_of sink r) as (λ b. cond {A = List ℕ} b [] [] ≡ []) [ true ↦ refl | false ↦ refl ]
 
 given_none : (bytes : List ℕ) (r : Role) → given_if None bytes r ≡ []
 given_none bytes r = refl
@@ -175,15 +175,15 @@ first_gives s t (Some u) None w bytes p made = absurd p
 first_gives s t None (Some v) w bytes p made = absurd p
 first_gives s t (Some u) (Some v) w bytes p made = record {
   text = texts;
-  same = ap (λ (x : Role). λ (q : Role). (index_of x == index_of q) || is_of w q) p.role;
+  same = ap (λ (x : Role). λ (q : Role). (index_of x == index_of q) || is_sink_of w q) p.role;
   made = makes w made;
   rest = writing_to here p.rest;
 }
   where
-    here : IsTrue ((index_of u.role == index_of u.role) || is_of w u.role)
-    here = ap (λ b. b || is_of w u.role) (self_test u.role)
+    here : IsTrue ((index_of u.role == index_of u.role) || is_sink_of w u.role)
+    here = ap (λ b. b || is_sink_of w u.role) (self_test u.role)
 
-    texts : IsTrue s.tells → (r : Role) → IsTrue (is_of (Some u) r || is_of w r) → text_if t (Some v) r (text_if t w r []) ≡ text_if s (Some u) r (text_if s w r []) ++ given_if (Some u) bytes r
+    texts : IsTrue s.tells → (r : Role) → IsTrue (is_sink_of (Some u) r || is_sink_of w r) → text_if t (Some v) r (text_if t w r []) ≡ text_if s (Some u) r (text_if s w r []) ++ given_if (Some u) bytes r
     texts told r is =
         elim (role_tells u.role r) [
           | inl e ↦ rw (ap (λ x. index_of x == index_of r) p.role ∙ e.0, e.0) (p.text told)
@@ -209,13 +209,13 @@ second_gives s t w (Some u) None bytes p made = absurd p
 second_gives s t w None (Some v) bytes p made = absurd p
 second_gives s t w (Some u) (Some v) bytes p made = record {
   text = texts w made;
-  same = ap (λ (x : Role). λ (q : Role). is_of w q || (index_of x == index_of q)) p.role;
+  same = ap (λ (x : Role). λ (q : Role). is_sink_of w q || (index_of x == index_of q)) p.role;
   made = makes w made;
   rest = writing_to here p.rest;
 }
   where
-    here : IsTrue (is_of w u.role || (index_of u.role == index_of u.role))
-    here = ap (λ b. is_of w u.role || b) (self_test u.role) ∙ or_true (is_of w u.role)
+    here : IsTrue (is_sink_of w u.role || (index_of u.role == index_of u.role))
+    here = ap (λ b. is_sink_of w u.role || b) (self_test u.role) ∙ or_true (is_sink_of w u.role)
 
     ends : IsTrue s.tells → (r : Role) → text_if t (Some v) r [] ≡ text_if s (Some u) r [] ++ given_if (Some u) bytes r
     ends told r =
@@ -224,7 +224,7 @@ second_gives s t w (Some u) (Some v) bytes p made = record {
           | inr e ↦ rw (ap (λ x. index_of x == index_of r) p.role ∙ e.0, e.0) refl
         ]
 
-    texts : (w : Option SinkView) → AreMade s (record { first = w; second = Some u }) → IsTrue s.tells → (r : Role) → IsTrue (is_of w r || is_of (Some u) r)
+    texts : (w : Option SinkView) → AreMade s (record { first = w; second = Some u }) → IsTrue s.tells → (r : Role) → IsTrue (is_sink_of w r || is_sink_of (Some u) r)
         → text_if t w r (text_if t (Some v) r []) ≡ text_if s w r (text_if s (Some u) r []) ++ given_if (Some u) bytes r
     texts None m told r is = ends told r
     texts (Some x) m told r is =
@@ -266,4 +266,4 @@ second_cause from w u s t k (Ok v) later fault rose = tt
 second_cause from w None s t k (Err f) later fault rose = absurd fault
 second_cause from w (Some x) s t k (Err f) later fault rose =
     let P : Fault → Type 0 = λ e. HasFaultCause from (has_sink (record { first = w; second = Some x })) s k (Some e) in
-    subst P (sym fault) (ap (λ b. is_of w x.role || b) (self_test x.role) ∙ or_true (is_of w x.role), rose_for_all_after later rose)
+    subst P (sym fault) (ap (λ b. is_sink_of w x.role || b) (self_test x.role) ∙ or_true (is_sink_of w x.role), rose_for_all_after later rose)

@@ -13,13 +13,13 @@ use Rattle.streams.specs.Sink.{SinkView, IsMade, text_in}
 -- ---- what they show
 
 -- the sink is the role's
-abbrev pub is_of : Option SinkView → Role → Bool
-is_of None role = false
-is_of (Some sink) role = index_of sink.role == index_of role
+abbrev pub is_sink_of : Option SinkView → Role → Bool
+is_sink_of None role = false
+is_sink_of (Some sink) role = index_of sink.role == index_of role
 
 -- the role has a sink
 abbrev pub has_sink : Sinks → Role → Bool
-has_sink sinks role = is_of sinks.first role || is_of sinks.second role
+has_sink sinks role = is_sink_of sinks.first role || is_sink_of sinks.second role
 
 -- the text of a sink, where it is the role's
 abbrev pub text_if : HostState → Option SinkView → Role → List ℕ → List ℕ

@@ -4,7 +4,7 @@ ghost use Rattle.conda_host.specs.State.{is_created, RoseForAll};
 ghost use Rattle.conda_host.specs.declared.outside.Role.{Role as TheRole};
 ghost use Rattle.streams.specs.Seen.{fault_in};
 ghost use Rattle.streams.specs.Sink.{AddsIf};
-ghost use Rattle.streams.specs.Streaming.{is_of, has_sink, AreMade, AreWhole, Gives, HasFaultCause, added_to};
+ghost use Rattle.streams.specs.Streaming.{is_sink_of, has_sink, AreMade, AreWhole, Gives, HasFaultCause, added_to};
 
 use crate::{Fault, MOST_PUT, Sink};
 use conda_host::{Host, HostFailed, Role};
@@ -18,7 +18,7 @@ pub struct Sinks {
 
 // Whether the sink is the role's.
 fn is_role(sink: &Option<Sink>, role: Role) -> bool
-    ensures { result ≡ is_of sink.now role }
+    ensures { result ≡ is_sink_of sink.now role }
 {
     match sink {
         Some(sink) => sink.role().index() == role.index(),

@@ -5,7 +5,7 @@ use Rattle.std.proofs.lemmas.Bool.{false≢true, or_from, eqb-true, false_from_n
 use Rattle.std.proofs.lemmas.List.Elements.{All-nil, All-cons, All-head, All-tail}
 use Rattle.conda_base.specs.declared.Line.{Line}
 use Rattle.conda_base.specs.LineLists.{line_at, names}
-use Rattle.offload_calls.specs.Stores.{has, stored_addresses}
+use Rattle.offload_calls.specs.Stores.{is_listed, stored_addresses}
 use Rattle.offload_calls.specs.State.{Setup, State}
 use Rattle.offload_calls.specs.HartAct.{hart_step, hart_stores}
 use Rattle.offload_calls.proofs.StepFacts.{OnLines, hart_lines, step_stores-on, step-memory}
@@ -32,7 +32,7 @@ step_lines s f h l is out =
 
 -- an address on no line that a step stores to isn't stored to
 off_lines : (base n : ℕ) (lines : List Line) (a : ℕ) (stores : List (ℕ × ℕ)) → names lines (line_at n a) ≡ false
-    → All (OnLines base n lines) stores → has (stored_addresses stores) a ≡ false
+    → All (OnLines base n lines) stores → is_listed (stored_addresses stores) a ≡ false
 off_lines base n lines a [] out on = refl
 off_lines base n lines a (store ∷ stores) out on =
     let here : OnLines base n lines store = All-head (OnLines base n lines) store stores on in
@@ -41,6 +41,6 @@ off_lines base n lines a (store ∷ stores) out on =
     (off_lines base n lines a stores out (All-tail (OnLines base n lines) store stores on))
 
 pub step_addresses : (s : Setup) (f : State) (h a : ℕ) → IsSetup s → names (hart_lines s f h) (line_at s.line_bytes a) ≡ false
-    → has (stored_addresses (hart_stores s f h)) a ≡ false
+    → is_listed (stored_addresses (hart_stores s f h)) a ≡ false
 step_addresses s f h a is out =
     off_lines s.code.base s.line_bytes (hart_lines s f h) a (hart_stores s f h) out (step_stores-on s f h is.code is.size)

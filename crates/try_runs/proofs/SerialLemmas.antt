@@ -8,22 +8,22 @@ use Rattle.rv32_hart.specs.Act.{plan_of}
 use Rattle.offload_calls.specs.declared.status.Core.{Core}
 use Rattle.offload_calls.specs.declared.status.CoreStatus.TheVariants as Core_is
 use Rattle.offload_calls.specs.Stores.{Inside, overlay, byte_at}
-use Rattle.offload_calls.specs.Effects.{Span, loads_of, loaded}
+use Rattle.offload_calls.specs.Effects.{Span, loads_of, span_value}
 use Rattle.offload_calls.specs.State.{Setup, State, updated}
 use Rattle.offload_calls.specs.CoreActs.{KernelEffect, kernel_effect, core_runs, core_effect, core_does, core_act_of, core_act, core_acts}
 use Rattle.offload_calls.proofs.StoreLemmas.{overlay-append, byte_at-overlay, number_at-same}
 use Rattle.offload_calls.proofs.SpanFacts.{SpanFits, loads-fit}
-use Rattle.try_runs.specs.Tries.{Try, seen, act_effect, acted, try_act, try_over}
+use Rattle.try_runs.specs.Tries.{Try, byte_seen, try_effect, acted, try_act, try_over}
 use Rattle.try_runs.specs.Serial.{IsSetup, IsLong, after_try}
 use Rattle.try_runs.proofs.TryFacts.{try_over-inside}
 
 -- the value that flat memory gives is the one that the try sees over it
 pub loaded_flat : (s : Setup) (f : State) (ws : List (ℕ × ℕ)) (o : Option Span) → IsLong s f
     → IfSome o (SpanFits s.code s.line_bytes) → All (Inside s.code.base (length s.code.bytes)) ws
-    → loaded (byte_at s.code.base (overlay s.code.base f.memory ws)) o ≡ loaded (seen (byte_at s.code.base f.memory) ws) o
+    → span_value (byte_at s.code.base (overlay s.code.base f.memory ws)) o ≡ span_value (byte_seen (byte_at s.code.base f.memory) ws) o
 loaded_flat s f ws None long h k = refl
 loaded_flat s f ws (Some span) long h k =
-    number_at-same (byte_at s.code.base (overlay s.code.base f.memory ws)) (seen (byte_at s.code.base f.memory) ws) span.addr span.size
+    number_at-same (byte_at s.code.base (overlay s.code.base f.memory ws)) (byte_seen (byte_at s.code.base f.memory) ws) span.addr span.size
     (λ x l u. byte_at-overlay s.code.base f.memory ws x (subst (λ room. All (Inside s.code.base room) ws) (sym long) k) (omega (arith, h.from)))
 
 pub updated-same : {A : Type 0} (f : ℕ → A) (j : ℕ) (x : A) → updated f j x j ≡ x
@@ -61,11 +61,11 @@ core_act-sim s f j t is long inside =
     ap (core_act_of s (after_try s f j t) j) (updated-same f.cores j t.core) ∙ go (core_runs t.core.status)
   where
     go : (b : Bool) → cond b (core_does s (after_try s f j t) j (core_effect s (overlay s.code.base f.memory t.stored) t.core.regs)) (after_try s f j t)
-        ≡ after_try s f j (cond b (acted s.code s.line_bytes t (act_effect s.code (byte_at s.code.base f.memory) t)) t)
+        ≡ after_try s f j (cond b (acted s.code s.line_bytes t (try_effect s.code (byte_at s.code.base f.memory) t)) t)
     go true =
         ap (λ v. core_does s (after_try s f j t) j (kernel_effect t.core.regs (plan_of s.code t.core.regs) v))
         (loaded_flat s f t.stored (loads_of (plan_of s.code t.core.regs)) long (loads-fit s.code s.line_bytes t.core.regs is.code is.size) inside)
-        ∙ core_does-sim s f j t (act_effect s.code (byte_at s.code.base f.memory) t)
+        ∙ core_does-sim s f j t (try_effect s.code (byte_at s.code.base f.memory) t)
     go false = refl
 
 -- n acts on flat memory are the try over the bytes of that memory

@@ -15,11 +15,11 @@ use Rattle.rv32_hart.proofs.PlanFacts.{plan-fits}
 use Rattle.offload_calls.specs.declared.serve.Kernel.{Kernel}
 use Rattle.offload_calls.specs.Calls.{is_idle}
 use Rattle.offload_calls.specs.Stores.{Inside, latest, number_at}
-use Rattle.offload_calls.specs.Effects.{Span, loads_of, loaded}
+use Rattle.offload_calls.specs.Effects.{Span, loads_of, span_value}
 use Rattle.offload_calls.specs.CoreActs.{KernelEffect, kernel_effect, status_after_kernel_call, core_runs}
 use Rattle.offload_calls.proofs.StoreLemmas.{latest_stored, number_at-same}
 use Rattle.offload_calls.proofs.SpanFacts.{SpanFits, loads-fit, stores-inside}
-use Rattle.try_runs.specs.Tries.{Try, is_covered, outside_line, with_line, seen, next_plan, next_outside, act_effect, acted, try_act, try_over}
+use Rattle.try_runs.specs.Tries.{Try, is_covered, outside_line, with_some_line, byte_seen, next_plan, next_outside, try_effect, acted, try_act, try_over}
 use Rattle.try_runs.specs.Fills.{Fills, byte_of, new_line, fills_with, try_run}
 use Rattle.conda_base.proofs.LineListLemmas.{names-same, names-with_new, names-itself}
 use Rattle.try_runs.proofs.StoreFacts.{are_stored_at}
@@ -29,29 +29,29 @@ pub record Agree (low n : ℕ) (one two : ℕ → ℕ) (lines : List Line) : Typ
   pub at : (a : ℕ) → low ≤ a → names lines (line_at n a) ≡ true → one a ≡ two a
 
 -- lines once read stay read
-names-with_line : (ls : List Line) (o : Option Line) (l : Line) → names ls l ≡ true → names (with_line ls o) l ≡ true
+names-with_line : (ls : List Line) (o : Option Line) (l : Line) → names ls l ≡ true → names (with_some_line ls o) l ≡ true
 names-with_line ls None l h = h
 names-with_line ls (Some n) l h = names-with_new ls n l ∙ or_left _ _ h
 
 reads_stay : (code : CodeView) (n : ℕ) (below : ℕ → ℕ) (t : Try) (l : Line) → names t.reads l ≡ true → names (try_act code n below t).reads l ≡ true
 unfolding try_act
 reads_stay code n below t l h =
-    cond_both (core_runs t.core.status) (acted code n t (act_effect code below t)) t (λ (u : Try). names u.reads l ≡ true)
+    cond_both (core_runs t.core.status) (acted code n t (try_effect code below t)) t (λ (u : Try). names u.reads l ≡ true)
     (λ _. names-with_line t.reads (next_outside code n t) l h) (λ _. h)
 
 -- a load reads one value over readers that agree on its line
 loaded_agree : (code : CodeView) (n : ℕ) (one two : ℕ → ℕ) (ws : List (ℕ × ℕ)) (ls : List Line) (o : Option Span)
-    → IfSome o (SpanFits code n) → Agree code.base n one two (with_line ls (outside_line n ws o))
-    → loaded (seen one ws) o ≡ loaded (seen two ws) o
+    → IfSome o (SpanFits code n) → Agree code.base n one two (with_some_line ls (outside_line n ws o))
+    → span_value (byte_seen one ws) o ≡ span_value (byte_seen two ws) o
 loaded_agree code n one two ws ls None h g = refl
 loaded_agree code n one two ws ls (Some s) h g = go (is_covered ws s.addr s.size) refl g
   where
-    go : (t : Bool) → is_covered ws s.addr s.size ≡ t → Agree code.base n one two (with_line ls (cond t None (Some (line_at n s.addr))))
-        → number_at (seen one ws) s.addr s.size ≡ number_at (seen two ws) s.addr s.size
+    go : (t : Bool) → is_covered ws s.addr s.size ≡ t → Agree code.base n one two (with_some_line ls (cond t None (Some (line_at n s.addr))))
+        → number_at (byte_seen one ws) s.addr s.size ≡ number_at (byte_seen two ws) s.addr s.size
     go true e g =
-        number_at-same (seen one ws) (seen two ws) s.addr s.size (λ x l u. latest_stored ws x (one x) (two x) (are_stored_at ws s.addr s.size x e l u))
+        number_at-same (byte_seen one ws) (byte_seen two ws) s.addr s.size (λ x l u. latest_stored ws x (one x) (two x) (are_stored_at ws s.addr s.size x e l u))
     go false e g =
-        number_at-same (seen one ws) (seen two ws) s.addr s.size
+        number_at-same (byte_seen one ws) (byte_seen two ws) s.addr s.size
         (λ x l u. ap (latest ws x) (g.at x (omega (arith, h.from))
         (subst (λ m. names (with_new ls (line_at n s.addr)) (record { 0 = m }) ≡ true) (sym (h.one_line x l u)) (names-itself ls (line_at n s.addr)))))
 
@@ -60,8 +60,8 @@ try_act-agree : (code : CodeView) (n : ℕ) (one two : ℕ → ℕ) (t : Try) �
 unfolding try_act
 try_act-agree code n one two t is line g = go (core_runs t.core.status) g
   where
-    go : (s : Bool) → Agree code.base n one two (cond s (acted code n t (act_effect code one t)) t).reads
-        → cond s (acted code n t (act_effect code one t)) t ≡ cond s (acted code n t (act_effect code two t)) t
+    go : (s : Bool) → Agree code.base n one two (cond s (acted code n t (try_effect code one t)) t).reads
+        → cond s (acted code n t (try_effect code one t)) t ≡ cond s (acted code n t (try_effect code two t)) t
     go true g =
         ap (λ v. acted code n t (kernel_effect t.core.regs (next_plan code t) v))
         (loaded_agree code n one two t.stored t.reads (loads_of (next_plan code t)) (loads-fit code n t.core.regs is line) g)
@@ -82,8 +82,8 @@ try_act-inside : (code : CodeView) (n : ℕ) (below : ℕ → ℕ) (t : Try) →
     → All (Inside code.base (length code.bytes)) (try_act code n below t).stored
 unfolding try_act
 try_act-inside code n below t is h =
-    cond_both (core_runs t.core.status) (acted code n t (act_effect code below t)) t (λ (u : Try). All (Inside code.base (length code.bytes)) u.stored)
-    (λ _. All-append (Inside code.base (length code.bytes)) t.stored (act_effect code below t).stores h (stores-inside code t.core.regs _ is))
+    cond_both (core_runs t.core.status) (acted code n t (try_effect code below t)) t (λ (u : Try). All (Inside code.base (length code.bytes)) u.stored)
+    (λ _. All-append (Inside code.base (length code.bytes)) t.stored (try_effect code below t).stores h (stores-inside code t.core.regs _ is))
     (λ _. h)
 
 pub try_over-inside : (code : CodeView) (n : ℕ) (below : ℕ → ℕ) (r : Regs) (k : ℕ) → IsCode code → All (Inside code.base (length code.bytes)) (try_over code n below r k).stored
@@ -123,7 +123,7 @@ effect-status r (Ok p) v =
 try_act-status : (code : CodeView) (n : ℕ) (below : ℕ → ℕ) (t : Try) → is_idle (Some t.core.status) ≡ false → is_idle (Some (try_act code n below t).core.status) ≡ false
 unfolding try_act
 try_act-status code n below t h =
-    cond_both (core_runs t.core.status) (acted code n t (act_effect code below t)) t (λ (u : Try). is_idle (Some u.core.status) ≡ false)
+    cond_both (core_runs t.core.status) (acted code n t (try_effect code below t)) t (λ (u : Try). is_idle (Some u.core.status) ≡ false)
     (λ _. effect-status t.core.regs (next_plan code t) _) (λ _. h)
 
 pub try_over-status : (code : CodeView) (n : ℕ) (below : ℕ → ℕ) (r : Regs) (k : ℕ) → is_idle (Some (try_over code n below r k).core.status) ≡ false

@@ -9,8 +9,8 @@ use Rattle.rv32_hart.specs.Code.{CodeView}
 use Rattle.rv32_hart.specs.Act.{plan_of}
 use Rattle.offload_calls.specs.declared.status.Core.{Core}
 use Rattle.offload_calls.specs.declared.status.CoreStatus.TheVariants as Core_is
-use Rattle.offload_calls.specs.Stores.{latest, has, stored_addresses}
-use Rattle.offload_calls.specs.Effects.{Span, loads_of, loaded}
+use Rattle.offload_calls.specs.Stores.{latest, is_listed, stored_addresses}
+use Rattle.offload_calls.specs.Effects.{Span, loads_of, span_value}
 use Rattle.offload_calls.specs.CoreActs.{KernelEffect, kernel_effect, core_runs}
 
 -- What acts come to: the core's registers and status, the bytes stored, with their addresses and in
@@ -33,7 +33,7 @@ begun r = record {
 
 -- a byte was stored at the address
 abbrev pub is_stored : List (ℕ × ℕ) → ℕ → Bool
-is_stored stores addr = has (stored_addresses stores) addr
+is_stored stores addr = is_listed (stored_addresses stores) addr
 
 -- the lines of stores, in the order of the first store
 abbrev pub stored_lines : ℕ → List (ℕ × ℕ) → List Line
@@ -55,13 +55,13 @@ outside_line line_bytes stores None = None
 outside_line line_bytes stores (Some span) =
     if is_covered stores span.addr span.size then None else Some (line_at line_bytes span.addr)
 
-abbrev pub with_line : List Line → Option Line → List Line
-with_line lines None = lines
-with_line lines (Some l) = with_new lines l
+abbrev pub with_some_line : List Line → Option Line → List Line
+with_some_line lines None = lines
+with_some_line lines (Some l) = with_new lines l
 
 -- a byte as a try sees it: the last one stored there, or else the one below
-abbrev pub seen : (ℕ → ℕ) → List (ℕ × ℕ) → ℕ → ℕ
-seen below stores addr = latest stores addr (below addr)
+abbrev pub byte_seen : (ℕ → ℕ) → List (ℕ × ℕ) → ℕ → ℕ
+byte_seen below stores addr = latest stores addr (below addr)
 
 -- the plan of a try's next act
 abbrev pub next_plan : CodeView → Try → Result Planned Trap
@@ -74,11 +74,11 @@ next_outside code line_bytes t = outside_line line_bytes t.stored (loads_of (nex
 -- the effect of an act by this plan, which loads what the try sees over the bytes below
 abbrev pub effect_by : (ℕ → ℕ) → Try → Result Planned Trap → KernelEffect
 effect_by below t plan =
-    kernel_effect t.core.regs plan (loaded (seen below t.stored) (loads_of plan))
+    kernel_effect t.core.regs plan (span_value (byte_seen below t.stored) (loads_of plan))
 
 -- the effect of the next act, over the bytes below
-abbrev pub act_effect : CodeView → (ℕ → ℕ) → Try → KernelEffect
-act_effect code below t = effect_by below t (next_plan code t)
+abbrev pub try_effect : CodeView → (ℕ → ℕ) → Try → KernelEffect
+try_effect code below t = effect_by below t (next_plan code t)
 
 -- the try with this effect of an act by this plan
 abbrev pub with_effect : ℕ → Try → Result Planned Trap → KernelEffect → Try
@@ -86,7 +86,7 @@ with_effect line_bytes t plan e = record {
   core = e.core;
   stored = t.stored ++ e.stores;
   held = t.held ++ e.puts;
-  reads = with_line t.reads (outside_line line_bytes t.stored (loads_of plan));
+  reads = with_some_line t.reads (outside_line line_bytes t.stored (loads_of plan));
 }
 
 abbrev pub acted : CodeView → ℕ → Try → KernelEffect → Try
@@ -99,7 +99,7 @@ acted_by line_bytes below t plan = with_effect line_bytes t plan (effect_by belo
 -- one act over the bytes below; after the kernel's end it changes nothing
 unfoldable pub try_act : CodeView → ℕ → (ℕ → ℕ) → Try → Try
 try_act code line_bytes below t =
-    if core_runs t.core.status then acted code line_bytes t (act_effect code below t) else t
+    if core_runs t.core.status then acted code line_bytes t (try_effect code below t) else t
 
 unfoldable pub try_over : CodeView → ℕ → (ℕ → ℕ) → Regs → ℕ → Try
 try_over code line_bytes below r zero = begun r

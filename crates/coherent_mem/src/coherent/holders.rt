@@ -6,7 +6,7 @@ ghost use Rattle.line_memory.specs.Memory.{IsIn};
 ghost use Rattle.line_memory.specs.Notes.{all_noted, back_notes, down_notes};
 ghost use Rattle.line_memory.specs.Owners.{is_owner};
 ghost use Rattle.line_memory.specs.Tags.{held_state, without_line};
-ghost use Rattle.coherent_mem.specs.Moves.{IsDropped, IsMoved, backed, backed_notes, dropped_notes, list_at, written_back};
+ghost use Rattle.coherent_mem.specs.Moves.{IsDropped, IsMoved, backed, backed_notes, dropped_notes, list_at, flushed_copies};
 ghost use Rattle.coherent_mem.specs.Parts.{shown};
 
 use crate::coherent::Coherent;
@@ -19,7 +19,7 @@ impl Coherent {
     pub(super) fn leave(&mut self, h: u8, l: Line, log: &mut Traffic)
         requires { let b = shown self.old in IsSome (held_state (shape_of b) b.tags h l) }
         ensures moved { let b = shown self.old in
-            IsMoved (without_line l (list_at b h l)) (written_back b l) h l self.old self.new }
+            IsMoved (without_line l (list_at b h l)) (flushed_copies b l) h l self.old self.new }
         ensures notes { let b = shown self.old in
             log.new ≡ all_noted log.old (back_notes l h (held_state (shape_of b) b.tags h l)) }
     {
@@ -34,7 +34,7 @@ impl Coherent {
     pub(super) fn give_down(&mut self, o: u8, l: Line, log: &mut Traffic)
         requires { let b = shown self.old in is_owner (held_state (shape_of b) b.tags o l) ≡ true }
         ensures moved { let b = shown self.old in
-            IsMoved (shared_line l (list_at b o l)) (written_back b l) o l self.old self.new }
+            IsMoved (shared_line l (list_at b o l)) (flushed_copies b l) o l self.old self.new }
         ensures notes { let b = shown self.old in
             log.new ≡ all_noted log.old (down_notes l o (held_state (shape_of b) b.tags o l)) }
     {

@@ -10,9 +10,9 @@ use Rattle.try_runs.specs.Ends.{end_of}
 use Rattle.chip_laws.specs.Rules.{next}
 use Rattle.chip_laws.specs.Notes.{notes_of}
 use Rattle.chip_laws.specs.Worlds.{happens, world_from, journal_from}
-use Rattle.laws_example.specs.Configs.{plain}
+use Rattle.laws_example.specs.Configs.{plain_config}
 use Rattle.laws_example.specs.SilentStores.{design}
 
 pub returns : goal.returns
-unfolding plain design decoded plan_of after plan_effect waits_next hart_step kernel_effect core_act core_acts line_use try_act try_over end_of next notes_of happens world_from journal_from
+unfolding plain_config design decoded plan_of after plan_effect waits_next hart_step kernel_effect core_act core_acts line_use try_act try_over end_of next notes_of happens world_from journal_from
 returns c = record { order = refl; notes = refl; tags = refl; bytes = refl }

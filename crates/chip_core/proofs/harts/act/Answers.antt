@@ -5,7 +5,7 @@ use Rattle.offload_calls.specs.declared.status.Hart.{Hart}
 use Rattle.rv32_hart.specs.Act.{after, plan_of}
 use Rattle.rv32_hart.specs.Code.{CodeView}
 use Rattle.coherent_mem.specs.Parts.{shown}
-use Rattle.conda_base.specs.LineLists.{list_of}
+use Rattle.conda_base.specs.LineLists.{line_list}
 use Rattle.offload_calls.specs.LineUses.{use_of_access, stored_line}
 use Rattle.std.specs.Vec.{with_items}
 use Rattle.std.proofs.lemmas.List.{with_items_is}
@@ -21,7 +21,7 @@ pub returns-clause-steps : goal.returns-clause-steps
 returns-clause-steps c d w reached s at runs plan =
     let b = shown c.args.memory.now in
     let e = c.exchange-loaded in
-    let lines = list_of (stored_line (use_of_access b.line_bytes c.args.planned.access)) in
+    let lines = line_list (stored_line (use_of_access b.line_bytes c.args.planned.access)) in
     let now : Cores = record { statuses = c.args.cores.now.statuses; portions = with_items c.args.cores.now.portions e.new.portions; lock = c.args.cores.now.lock } in
     plain-steps d w c.args.h c.args.code.now (hart-of c.finish.new.r c.args.hart.now.status) b (shown e.new.memory) c.args.log.now e.new.log
     c.args.cores.now now c.args.planned e.result s
@@ -45,7 +45,7 @@ pub returns-clause-fits : goal.returns-clause-fits
 returns-clause-fits c config free f =
     let b = shown c.args.memory.now in
     let e = c.exchange-loaded in
-    let lines = list_of (stored_line (use_of_access b.line_bytes c.args.planned.access)) in
+    let lines = line_list (stored_line (use_of_access b.line_bytes c.args.planned.access)) in
     let held = with_items_is c.args.cores.now.portions e.new.portions (e.auto.portions ∙ c.deref_mut.ensures.len) ∙ e.ensures.told ∙ ap (all_told lines) c.deref_mut.ensures.value in
     subst (λ x. FitCores config c.args.code.now c.args.cores.now.statuses.items x c.args.cores.now.lock) (sym held)
     (all-told-fit config c.args.code.now c.args.cores.now.statuses.items c.args.cores.now.portions.items c.args.cores.now.lock lines free f)

@@ -1,12 +1,12 @@
 use Rattle.std.proofs.Common.{◌≡◌, ◌++◌, length}
 use Rattle.std.specs.List.{flat_map}
-use Rattle.conda_engine.specs.Disassembling.{line_of, words_in}
+use Rattle.conda_engine.specs.Disassembling.{line_of_word, words_in}
 use Rattle.conda_engine.proofs.disassembling.push_words.Given as goal
 
 abbrev pub invariant-words : goal.invariant-words
 invariant-words l =
-    l.text.items ++ flat_map line_of (words_in l.rest)
-    ≡ l.initial.text.items ++ flat_map line_of (words_in l.fn.bytes)
+    l.text.items ++ flat_map line_of_word (words_in l.rest)
+    ≡ l.initial.text.items ++ flat_map line_of_word (words_in l.fn.bytes)
 
 abbrev pub decreases-words : goal.decreases-words
 decreases-words l = length l.rest

@@ -4,7 +4,7 @@ use Rattle.std.proofs.lemmas.Bool.{ltb-true}
 use Rattle.conda_base.specs.declared.actor.Actor.TheVariants as Actor_is
 use Rattle.chip_config.specs.Settings.{Settings, settings}
 use Rattle.chip_core.specs.Seats.{turned}
-use Rattle.chip_core.specs.Views.{ChipView, has}
+use Rattle.chip_core.specs.Views.{ChipView, is_actor_of}
 use Rattle.chip_core.specs.Shows.{Shows}
 use Rattle.chip_core.proofs.PartFacts.{hart-turn, core-turns}
 use Rattle.chip_core.proofs.chip.Chip.turn.Goals as goal
@@ -16,8 +16,8 @@ pub returns-in-Hart-clause-turns : goal.returns-in-Hart-clause-turns
 unfolding old
 returns-in-Hart-clause-turns c d w reached s =
     let shows : Shows d (old c) w = rw c.self.view_is s in
-    let there : has (old c) (Actor_is.Hart c.in-Hart.h) ≡ true = subst (λ (v : ChipView). has v (Actor_is.Hart c.in-Hart.h) ≡ true) (sym c.self.view_is)
-    (subst (λ a. has c.args.self.now a ≡ true) c.in-Hart.is c.requires.has) in
+    let there : is_actor_of (old c) (Actor_is.Hart c.in-Hart.h) ≡ true = subst (λ (v : ChipView). is_actor_of v (Actor_is.Hart c.in-Hart.h) ≡ true) (sym c.self.view_is)
+    (subst (λ a. is_actor_of c.args.self.now a ≡ true) c.in-Hart.is c.requires.has) in
     let inside : c.in-Hart.h < length c.self.inside.harts.items = below-harts (ltb-true _ _ there) c.self.invariant.harts in
     let low : c.in-Hart.h < d.config.harts = subst (λ n. c.in-Hart.h < n) (ap (λ (x : Settings). x.harts) shows.config) (ltb-true _ _ there) in
     let new : ChipView = record { config = settings c.self.inside.config; code = c.self.inside.code; memory = c.hart_event.new.memory; harts = set c.self.inside.harts.items c.in-Hart.h c.hart_event.new.hart; statuses = c.hart_event.new.cores.statuses.items; portions = c.hart_event.new.cores.portions.items; lock = c.hart_event.new.cores.lock; log = c.hart_event.new.log } in

@@ -1,5 +1,5 @@
 use Rattle.std.proofs.Common.{refl, arith, ap, ◌∙◌}
-use Rattle.conda_host.specs.MemoryHost.{rules_of, places_of}
+use Rattle.conda_host.specs.MemoryHost.{rules_of, rooms_of}
 use Rattle.conda_host.specs.Memory.{empty_file_for, files_seen, file_at}
 use Rattle.conda_host.proofs.Finds.{still_distinct}
 use Rattle.conda_host.proofs.States.{create_ok, create_rest, create_failed, create_takes, counted_none, among_of_first, among_of_none, places_set, same_rules, succeeds, fails_itself, fails_so}
@@ -43,7 +43,7 @@ returns-in-Some-clause-served c =
     let s = c.args.self.now in
     record {
       counts = counted_none s.inputs.items (files_seen s.outputs.items) _ s.slots c.index-at.result c.args.role _ c.index-at.ensures.place (omega arith) refl;
-      rules = same_rules (rules_of s) _ c.count_call-fails.new.calls (ap places_of c.create_output.ensures ∙ places_set (files_seen s.outputs.items) c.in-Some.j (empty_file_for c.args.role (file_at (files_seen s.outputs.items) c.in-Some.j)) refl refl) c.count_call-fails.ensures.count;
+      rules = same_rules (rules_of s) _ c.count_call-fails.new.calls (ap rooms_of c.create_output.ensures ∙ places_set (files_seen s.outputs.items) c.in-Some.j (empty_file_for c.args.role (file_at (files_seen s.outputs.items) c.in-Some.j)) refl refl) c.count_call-fails.ensures.count;
     }
 
 pub returns-in_default-clause-when : goal.returns-in_default-clause-when

@@ -2,7 +2,7 @@ use Rattle.std.proofs.Common.{ℕ, List, ◌≡◌, ◌≤◌, ◌<◌, length, 
 use Rattle.std.proofs.lemmas.Grind.{common_steps}
 use Rattle.std.proofs.lemmas.Bool.Decides.{nat_tests}
 use Rattle.std.specs.Prelude.{Bool, nat_lt, nat_eq}
-use Rattle.conda_host.specs.MemoryHost.{rules_of, places_of, room_left}
+use Rattle.conda_host.specs.MemoryHost.{rules_of, rooms_of, room_left}
 use Rattle.conda_host.specs.Memory.{files_seen, file_at, file_with, owns}
 use Rattle.conda_host.proofs.Finds.{still_distinct, first_of_held}
 use Rattle.conda_host.proofs.States.{owned_there, place_of_owned, write_ok, write_rest, slot_changed, write_failed, same_rules, places_set, succeeds, fails_itself, fails_so, room_owned, has_room, has_no_room, not_uncreated}
@@ -50,7 +50,7 @@ returns-then-is_empty-clause-served c =
     let s = c.args.self.now in
     record {
       counts = record { same = λ r n. refl };
-      rules = same_rules (rules_of s) _ c.count_call-fails.new.calls (ap places_of c.append_output.ensures ∙ places_set (files_seen s.outputs.items) c.in-Some.j (file_with (take c.taken-n.result c.args.bytes.now) (file_at (files_seen s.outputs.items) c.in-Some.j)) refl refl) c.count_call-fails.ensures.count;
+      rules = same_rules (rules_of s) _ c.count_call-fails.new.calls (ap rooms_of c.append_output.ensures ∙ places_set (files_seen s.outputs.items) c.in-Some.j (file_with (take c.taken-n.result c.args.bytes.now) (file_at (files_seen s.outputs.items) c.in-Some.j)) refl refl) c.count_call-fails.ensures.count;
     }
 
 pub returns-then-is_empty-clause-moves : goal.returns-then-is_empty-clause-moves

@@ -1,6 +1,6 @@
 use Rattle.std.proofs.Common.{◌≡◌, ◌-◌, set, ap, ◌∙◌}
 use Rattle.mesi_directory.specs.declared.row.Row.TheVariants.{Owner}
-use Rattle.mesi_directory.specs.Rows.{has, row_of, unpacked_rows}
+use Rattle.mesi_directory.specs.Rows.{has_holder, row_of, unpacked_rows}
 use Rattle.mesi_directory.proofs.RowLemmas.{AreRows-set, row_of-with_row_same, has-owner}
 use Rattle.mesi_directory.proofs.directory.Directory.own.Goals as goal
 
@@ -18,7 +18,7 @@ returns-clause-row c =
     ap (λ d. row_of d c.args.l) (returns-clause-others c) ∙ row_of-with_row_same c.args.self.now c.args.l (Owner c.args.h) c.requires.line
 
 pub returns-clause-holders : goal.returns-clause-holders
-returns-clause-holders c = λ k. ap (λ r. has r k) (returns-clause-row c) ∙ has-owner c.args.h k
+returns-clause-holders c = λ k. ap (λ r. has_holder r k) (returns-clause-row c) ∙ has-owner c.args.h k
 
 pub returns-clause-kept : goal.returns-clause-kept
 returns-clause-kept c = invariant_of-self c

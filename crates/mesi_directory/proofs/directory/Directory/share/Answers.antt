@@ -1,6 +1,6 @@
 use Rattle.std.proofs.Common.{◌≡◌, ◌-◌, get_or, set, ap, ◌∙◌}
 use Rattle.mesi_directory.specs.declared.row.Row.TheVariants.{Nobody}
-use Rattle.mesi_directory.specs.Rows.{has, row_of, with_row, shared_with, unpacked_rows}
+use Rattle.mesi_directory.specs.Rows.{has_holder, row_of, with_row, shared_with, unpacked_rows}
 use Rattle.mesi_directory.proofs.RowLemmas.{AreRows-set, row_of-with_row_same, has-shared_with}
 use Rattle.mesi_directory.proofs.directory.Directory.share.Goals as goal
 
@@ -19,7 +19,7 @@ returns-clause-row c =
     ap (λ d. row_of d c.args.l) (returns-clause-others c) ∙ row_of-with_row_same c.args.self.now c.args.l (shared_with (row_of c.args.self.now c.args.l) c.args.h) c.requires.line
 
 pub returns-clause-holders : goal.returns-clause-holders
-returns-clause-holders c = λ k. ap (λ r. has r k) (returns-clause-row c) ∙ has-shared_with (row_of c.args.self.now c.args.l) c.args.h k
+returns-clause-holders c = λ k. ap (λ r. has_holder r k) (returns-clause-row c) ∙ has-shared_with (row_of c.args.self.now c.args.l) c.args.h k
 
 pub returns-clause-kept : goal.returns-clause-kept
 returns-clause-kept c = invariant_of-self c
