@@ -23,7 +23,9 @@ pub record AreWithin (bits : ℕ) (at : Places) : Type 0 where
 
 -- the four bits are set
 abbrev pub has_places : Sets → Places → Bool
-has_places s at = is_in_set s.first at.first && is_in_set s.second at.second && is_in_set s.third at.third && is_in_set s.fourth at.fourth
+has_places s at =
+    is_in_set s.first at.first && is_in_set s.second at.second && is_in_set s.third at.third
+    && is_in_set s.fourth at.fourth
 
 -- the four bits are set now, one of them newly
 abbrev pub with_places : Sets → Places → Sets

@@ -32,7 +32,8 @@ pub record AreJoined (from until : ℕ) (old others new : List ℕ) : Type 0 whe
 
 -- no word in this range has a bit in common with the other word of its place
 abbrev pub AreDisjoint : ℕ → ℕ → List ℕ → List ℕ → Type 0
-AreDisjoint from until words others = (k : ℕ) → from ≤ k → k < until → bit_and (slice_index words k) (slice_index others k) ≡ 0
+AreDisjoint from until words others =
+    (k : ℕ) → from ≤ k → k < until → bit_and (slice_index words k) (slice_index others k) ≡ 0
 
 -- some number's bit is 1 in both
 abbrev pub ShareBit : List ℕ → List ℕ → Type 0

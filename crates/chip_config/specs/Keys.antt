@@ -74,7 +74,9 @@ abbrev pub line_bytes : Key
 line_bytes = key 16 (codes "line_bytes") 64 LineSize
 
 unfoldable pub keys : List Key
-keys = harts ∷ cores ∷ mem_base ∷ mem_bytes ∷ hart_sets ∷ hart_ways ∷ core_sets ∷ core_ways ∷ sig_bits ∷ read_limit ∷ write_limit ∷ portion_max ∷ out_max ∷ retries ∷ trace_last ∷ line_bytes ∷ []
+keys =
+    harts ∷ cores ∷ mem_base ∷ mem_bytes ∷ hart_sets ∷ hart_ways ∷ core_sets ∷ core_ways ∷ sig_bits
+    ∷ read_limit ∷ write_limit ∷ portion_max ∷ out_max ∷ retries ∷ trace_last ∷ line_bytes ∷ []
 
 -- the name of one of them
 abbrev pub is_key : List ℕ → Bool

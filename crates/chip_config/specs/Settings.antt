@@ -95,7 +95,8 @@ are_keys (member name of_name rest) = is_key name && are_keys rest
 -- the first of these keys that has no number
 abbrev pub first_without : Data → List Key → Option ConfigFault
 first_without value [] = None
-first_without value (k ∷ rest) = if is_some (key_number value k) then first_without value rest else Some (NotNumber k.number)
+first_without value (k ∷ rest) =
+    if is_some (key_number value k) then first_without value rest else Some (NotNumber k.number)
 
 -- the numbers of the keys
 abbrev pub numbers_of : Data → List ℕ
@@ -105,7 +106,8 @@ numbers_of value = map (number_at_key value) keys
 abbrev pub first_outside : List Key → List ℕ → Option ConfigFault
 first_outside [] numbers = None
 first_outside (k ∷ rest) [] = None
-first_outside (k ∷ rest) (n ∷ numbers) = if within k.range n then first_outside rest numbers else Some (OutOfRange k.number n)
+first_outside (k ∷ rest) (n ∷ numbers) =
+    if within k.range n then first_outside rest numbers else Some (OutOfRange k.number n)
 
 -- memory ends by 2 ^ 32, and is a whole number of lines
 abbrev pub is_memory : Settings → Bool

@@ -46,9 +46,11 @@ pub struct Config {
     pub ghost memory_ends: { mem_base + mem_bytes ≤ 2 ^ 32 },
     pub ghost whole_base: { mem_base % line_bytes ≡ 0 },
     pub ghost whole_bytes: { mem_bytes % line_bytes ≡ 0 },
-    pub ghost some_hart_sets: { IsTrue (is_power_of_two hart_sets) × (1 ≤ hart_sets) × (hart_sets ≤ 256) },
+    pub ghost some_hart_sets: { IsTrue (is_power_of_two hart_sets)
+        × (1 ≤ hart_sets) × (hart_sets ≤ 256) },
     pub ghost some_hart_ways: { (1 ≤ hart_ways) × (hart_ways ≤ 8) },
-    pub ghost some_core_sets: { IsTrue (is_power_of_two core_sets) × (1 ≤ core_sets) × (core_sets ≤ 64) },
+    pub ghost some_core_sets: { IsTrue (is_power_of_two core_sets)
+        × (1 ≤ core_sets) × (core_sets ≤ 64) },
     pub ghost some_core_ways: { (1 ≤ core_ways) × (core_ways ≤ 8) },
     pub ghost some_sig_bits: { (1 ≤ sig_bits) × (sig_bits ≤ 10) },
     pub ghost some_reads: { (1 ≤ read_limit) × (read_limit ≤ 4096) },

@@ -46,7 +46,8 @@ fn read_number(value: &Value, name: &str, default: u64) -> Option<u64>
 fn read_numbers(table: &[Entry], value: &Value) -> Result<[u64; 16], ConfigFault>
     requires { keys_from 1 table.now ≡ keys }
     ensures { MatchResult result
-        (λ numbers. (first_without (view value.now) keys ≡ None) × (numbers ≡ numbers_of (view value.now)))
+        (λ numbers. (first_without (view value.now) keys ≡ None)
+        × (numbers ≡ numbers_of (view value.now)))
         (λ fault. first_without (view value.now) keys ≡ Some fault) }
 {
     let mut numbers = [0u64; 16];

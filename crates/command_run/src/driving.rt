@@ -45,7 +45,8 @@ fn create_texts<H: Host>(names: &RunNames, host: &mut H) -> Result<(), Fault>
         ((H.state host.old).role role.Schedule).left }
     ensures cause { IfErr result (FaultRose (run_names names.now) (H.state host.old)
         (H.state host.new)) }
-    ensures keeps { KeepsTo (text_uses (run_names names.now)) (H.state host.old) (H.state host.new) }
+    ensures keeps { KeepsTo (text_uses (run_names names.now)) (H.state host.old)
+        (H.state host.new) }
 {
     create(host, Role::Order, names.order)?;
     create_output(names, host)
@@ -61,7 +62,8 @@ fn start<H: Host>(names: &RunNames, host: &mut H) -> Result<(), Fault>
     ensures cause { IfErr result (FaultRose (run_names names.now) (H.state host.old)
         (H.state host.new)) }
     ensures unopened { CreatesOnceOpened (H.state host.old) (H.state host.new) }
-    ensures keeps { KeepsTo (text_uses (run_names names.now)) (H.state host.old) (H.state host.new) }
+    ensures keeps { KeepsTo (text_uses (run_names names.now)) (H.state host.old)
+        (H.state host.new) }
 {
     open(host, Role::Schedule, names.schedule)?;
     create_texts(names, host)
@@ -84,7 +86,8 @@ fn run_texts<M: Machine, H: Host>(
         (H.state host.new)) }
     ensures opened { IsTrue ((H.state host.new).role role.Schedule).opened }
     ensures report { task.new.report ≡ task.old.report }
-    ensures keeps { KeepsTo (text_uses (run_names names.now)) (H.state host.old) (H.state host.new) }
+    ensures keeps { KeepsTo (text_uses (run_names names.now)) (H.state host.old)
+        (H.state host.new) }
 {
     run_files(task, host)
 }

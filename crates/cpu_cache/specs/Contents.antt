@@ -21,7 +21,8 @@ pub record Contents : Type 0 where
 
 -- no line is held
 abbrev pub no_contents : ℕ → ℕ → ℕ → Contents
-no_contents line_bytes sets ways = record { line_bytes = line_bytes; lines = record { ways = ways; lists = replicate sets [] } }
+no_contents line_bytes sets ways =
+    record { line_bytes = line_bytes; lines = record { ways = ways; lists = replicate sets [] } }
 
 -- the content of a line, where it is held
 abbrev pub content_of : Contents → Line → Option Content
@@ -91,8 +92,10 @@ loaded offset size (Some content) = Some (value_at content.bytes offset size)
 
 -- the cache after a store to a line in M or E, by the line's content; else the same cache
 abbrev pub stored_from : Contents → Line → ℕ → ℕ → ℕ → List ℕ → Mesi → Contents
-stored_from c l offset size value bytes M = with_set c l (in_front c l (record { state = M; bytes = stored bytes offset size value }))
-stored_from c l offset size value bytes E = with_set c l (in_front c l (record { state = M; bytes = stored bytes offset size value }))
+stored_from c l offset size value bytes M =
+    with_set c l (in_front c l (record { state = M; bytes = stored bytes offset size value }))
+stored_from c l offset size value bytes E =
+    with_set c l (in_front c l (record { state = M; bytes = stored bytes offset size value }))
 stored_from c l offset size value bytes S = c
 
 abbrev pub stored_by : Contents → Line → ℕ → ℕ → ℕ → Option Content → Contents

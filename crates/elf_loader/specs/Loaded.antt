@@ -42,9 +42,11 @@ is_copied addr s = is_live s && (nat_le s.p_vaddr addr && nat_lt addr (s.p_vaddr
 
 -- memory from `base` on has a segment's bytes at its addresses
 abbrev pub IsInMemory : List ℕ → ℕ → List ℕ → Segment → Type 0
-IsInMemory file base memory s = (addr : ℕ) → IsTrue (holds addr s) → slice_index memory (addr - base) ≡ segment_byte file s addr
+IsInMemory file base memory s =
+    (addr : ℕ) → IsTrue (holds addr s) → slice_index memory (addr - base) ≡ segment_byte file s addr
 
 -- `size` bytes of memory from `base` on are 0 at each address in none of these segments
 abbrev pub IsZeroElsewhere : ℕ → ℕ → List ℕ → List Segment → Type 0
 IsZeroElsewhere base size memory segments =
-    (addr : ℕ) → base ≤ addr → addr < base + size → IsTrue (not (list_any (holds addr) segments)) → slice_index memory (addr - base) ≡ 0
+    (addr : ℕ) → base ≤ addr → addr < base + size → IsTrue (not (list_any (holds addr) segments))
+    → slice_index memory (addr - base) ≡ 0

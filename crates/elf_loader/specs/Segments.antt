@@ -76,4 +76,5 @@ is_bad_entry entry segments = not (entry % 4 == 0 && list_any (holds_word entry)
 pub record IsLoadable (file_bytes base size : ℕ) (segments : List Segment) : Type 0 where
   pub good : All (λ s. is_bad file_bytes s ≡ false) segments
   pub inside : All (λ s. is_outside base size s ≡ false) segments
-  pub apart : (k : ℕ) (d : Segment) → k < length segments → overlaps (take k segments) (slice_index_or segments k d) ≡ false
+  pub apart : (k : ℕ) (d : Segment) → k < length segments
+      → overlaps (take k segments) (slice_index_or segments k d) ≡ false

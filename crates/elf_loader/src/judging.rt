@@ -170,7 +170,8 @@ fn judge_segments(
         option_map fault.Dynamic (position is_dynamic segments.now)
         ∷ option_map fault.BadSegment (position (is_bad file_bytes) segments.now)
         ∷ option_map fault.SegmentOutside (position (is_outside base size) segments.now)
-        ∷ option_map fault.Overlap (position (overlaps_earlier segments.now) (numbered segments.now))
+        ∷ option_map fault.Overlap
+        (position (overlaps_earlier segments.now) (numbered segments.now))
         ∷ []) }
 {
     if let Some(place) = first_dynamic(segments) {

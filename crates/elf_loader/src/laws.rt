@@ -34,7 +34,8 @@ pub fn plain_image_is_loaded(at: u32, words: &[u32], base: u32, size: u32)
     ensures bytes { loaded_bytes (plain at words.now) base size
         ≡ memory_with base size at (words_bytes words.now) }
     ensures words { (i : ℕ) → i < length words.now
-        → word_at (code_of (plain at words.now) base size) (at + 4 * i) ≡ Some (slice_index words.now i) }
+        → word_at (code_of (plain at words.now) base size) (at + 4 * i)
+        ≡ Some (slice_index words.now i) }
 {}
 
 /// A law: of a file that isn't refused, memory has each live segment's bytes at its addresses, whatever the segments'

@@ -3,7 +3,8 @@ use Rattle.std.specs.Prelude.{ℕ, ◌≢◌, ◌==◌, List, slice_index_or, sl
 use Rattle.conda_base.specs.declared.Actor.{Actor}
 use Rattle.conda_base.specs.declared.Actor.TheVariants.{Hart, Core}
 
--- the rollbacks of each core since its last commit or launch, after how many a try is locked, and the core whose locked try is open
+-- the rollbacks of each core since its last commit or launch, after how many a try is locked, and the core whose locked
+-- try is open
 pub record Counts : Type 0 where
   pub backs : List ℕ
   pub retries : ℕ

@@ -37,7 +37,8 @@ impl Model for Lock {
 
     ghost Value = { Counts };
 
-    ghost view = { λ l. record { backs = take l.cores l.backs; retries = l.retries; locked = l.locked } };
+    ghost view = { λ l.
+        record { backs = take l.cores l.backs; retries = l.retries; locked = l.locked } };
 
     ghost invariant = { λ l. l.cores ≤ 4 };
 }

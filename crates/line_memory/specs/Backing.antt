@@ -66,7 +66,9 @@ modified_from from place (tag ∷ tags) =
 
 -- the dirty lines at or after a place, in walk order
 abbrev pub dirty_from : BackingView → ℕ → List Line
-dirty_from b from = each_below b.holders (λ holder. each_below b.sets (λ set. modified_from from (way_place b holder set 0) (b.tags holder set)))
+dirty_from b from =
+    each_below b.holders (λ holder. each_below b.sets (λ set.
+    modified_from from (way_place b holder set 0) (b.tags holder set)))
 
 -- the first dirty line at or after `from` is this one, and it stands at this place
 pub record IsFirstDirty (b : BackingView) (from place : ℕ) (l : Line) : Type 0 where

@@ -38,4 +38,5 @@ LooksIn masked offset size Full = ⊥
 abbrev pub StoresUnless : Tried → Bool → Line → ℕ → ℕ → ℕ → Stored → Tried → Type 0
 StoresUnless old refused l offset size value Store_is.Full new = (HasRoom old l → ⊥) × (new ≡ old)
 StoresUnless old refused l offset size value Store_is.Refused new = HasRoom old l × (refused ≡ true) × (new ≡ old)
-StoresUnless old refused l offset size value Store_is.Done new = HasRoom old l × (refused ≡ false) × WritesLine old new l offset size value
+StoresUnless old refused l offset size value Store_is.Done new =
+    HasRoom old l × (refused ≡ false) × WritesLine old new l offset size value

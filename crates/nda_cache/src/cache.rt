@@ -58,9 +58,16 @@ impl Model for NdaCache {
 
     ghost Value = { Tried };
 
-    ghost view = { λ c. record { line_bytes = c.line_bytes; sets = c.sets; ways = c.ways; lines = c.lines.items; stored = c.stored.items } };
+    ghost view = { λ c. record {
+      line_bytes = c.line_bytes;
+      sets = c.sets;
+      ways = c.ways;
+      lines = c.lines.items;
+      stored = c.stored.items;
+    } };
 
-    ghost invariant = { λ c. IsTryStore c.line_bytes c.sets c.ways c.index c.lines.items c.stored.items × (c.sets * c.ways ≤ vec_capacity c.lines) × (c.sets * c.ways ≤ vec_capacity c.stored) };
+    ghost invariant = { λ c. IsTryStore c.line_bytes c.sets c.ways c.index c.lines.items c.stored.items
+        × (c.sets * c.ways ≤ vec_capacity c.lines) × (c.sets * c.ways ≤ vec_capacity c.stored) };
 }
 
 /// What the lines of a try have of the bytes of a load.

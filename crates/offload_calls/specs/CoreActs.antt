@@ -55,7 +55,8 @@ kernel_instr_effect r i value stores = record {
 -- what an act by this plan does, `value` being what it loads; a trap leaves registers and ends the kernel
 unfoldable pub kernel_effect : Regs → Result Planned Trap → ℕ → KernelEffect
 kernel_effect r (Ok p) value =
-    if is_call_access p.access then kernel_call_effect r else kernel_instr_effect r p.instr value (stores_of_access value p.access)
+    if is_call_access p.access then kernel_call_effect r
+    else kernel_instr_effect r p.instr value (stores_of_access value p.access)
 kernel_effect r (Err trap) value = record {
   core = record { regs = r; status = Core_is.Trapped trap };
   stores = [];
@@ -94,7 +95,8 @@ abbrev pub act_loads : Setup → Core → List ℕ
 act_loads s core = if core_runs core.status then span_addresses (loads_of (plan_of s.code core.regs)) else []
 
 abbrev pub act_stores : Setup → List ℕ → Core → List ℕ
-act_stores s memory core = if core_runs core.status then stored_addresses (core_effect s memory core.regs).stores else []
+act_stores s memory core =
+    if core_runs core.status then stored_addresses (core_effect s memory core.regs).stores else []
 
 -- the addresses that n acts of core j store
 unfoldable pub written : Setup → State → ℕ → ℕ → List ℕ

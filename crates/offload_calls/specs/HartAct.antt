@@ -77,7 +77,8 @@ instr_effect r i value stores = record {
 -- what an act by this plan does, `value` being what it loads; a trap leaves registers and ends the hart
 unfoldable pub plan_effect : (ℕ → Option CoreStatus) → Regs → Result Planned Trap → ℕ → HartEffect
 plan_effect cores r (Ok p) value =
-    if is_call_access p.access then call_effect cores r else instr_effect r p.instr value (stores_of_access value p.access)
+    if is_call_access p.access then call_effect cores r
+    else instr_effect r p.instr value (stores_of_access value p.access)
 plan_effect cores r (Err trap) value = record {
   hart = record { regs = r; status = Hart_is.Trapped trap };
   change = Stays;

@@ -100,8 +100,8 @@ pub fn take<B: Backing>(
     requires sought { IsSought cache.old sought }
     requires looks { LooksUp cache.old sought.addr sought.size look }
     requires room { IsRoom look }
-    ensures takes { TakesValue (B.shown mem.now) cache.old reads.old sought.l sought.addr sought.size
-        look cache.new reads.new result.value }
+    ensures takes { TakesValue (B.shown mem.now) cache.old reads.old sought.l sought.addr
+        sought.size look cache.new reads.new result.value }
     ensures found { IsFound cache.new sought.l result.found }
     ensures notes { log.new ≡ all_noted log.old (take_notes core sought.l look) }
 {

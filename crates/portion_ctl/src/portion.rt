@@ -179,8 +179,11 @@ impl Ready {
 
     /// A core with all registers and pc 0. All memory for its tries is taken here.
     pub fn new(alloc: Global, core: u8, config: &Config) -> Result<Ready, AllocError>
-        ensures value { IfOk result (λ s. s
-            ≡ record { core = core; limits = limits_of (settings config.now); regs = start_regs 0 }) }
+        ensures value { IfOk result (λ s. s ≡ record {
+          core = core;
+          limits = limits_of (settings config.now);
+          regs = start_regs 0;
+        }) }
         ensures limits { IsLimits (limits_of (settings config.now)) }
     {
         let limits = Limits::of(config);

@@ -48,10 +48,14 @@ core_status_text (Core_is.Trapped trap) = trap_text trap
 
 -- the first line of a hart, and of a core
 unfoldable pub hart_line_text : ℕ → HartStatus → ℕ → List ℕ
-hart_line_text number status pc = codes "hart " ++ decimal number ++ codes " " ++ hart_status_text status ++ codes " pc " ++ hex_word pc ++ feed
+hart_line_text number status pc =
+    codes "hart " ++ decimal number ++ codes " " ++ hart_status_text status ++ codes " pc "
+    ++ hex_word pc ++ feed
 
 unfoldable pub core_line_text : ℕ → CoreStatus → ℕ → List ℕ
-core_line_text number status pc = codes "core " ++ decimal number ++ codes " " ++ core_status_text status ++ codes " pc " ++ hex_word pc ++ feed
+core_line_text number status pc =
+    codes "core " ++ decimal number ++ codes " " ++ core_status_text status ++ codes " pc "
+    ++ hex_word pc ++ feed
 
 -- the line of a register
 unfoldable pub register_line_text : ℕ → ℕ → List ℕ
@@ -59,7 +63,9 @@ register_line_text number value = codes "x" ++ decimal number ++ codes " " ++ he
 
 -- a register has a line where it isn't x0 and isn't 0
 unfoldable pub register_text : List ℕ → ℕ → List ℕ
-register_text x number = if number == 0 || slice_index x number == 0 then [] else register_line_text number (slice_index x number)
+register_text x number =
+    if number == 0 || slice_index x number == 0 then []
+    else register_line_text number (slice_index x number)
 
 -- the registers, ascending
 unfoldable pub registers_text : List ℕ → List ℕ

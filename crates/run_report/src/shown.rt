@@ -66,11 +66,13 @@ pub trait Shown {
     fn line(&self, l: Line, out: &mut [u8; 128])
         requires { IsLineOf (shown self.now).base (length (shown self.now).memory)
             (shown self.now).line_bytes l.0 }
-        ensures { out.new ≡ handed_out (line_bytes_at (shown self.now) (shown self.now).memory l.0) };
+        ensures { out.new
+            ≡ handed_out (line_bytes_at (shown self.now) (shown self.now).memory l.0) };
 
     /// Hands out the bytes of a line as they were loaded, and zeros after them.
     fn loaded(&self, l: Line, out: &mut [u8; 128])
         requires { IsLineOf (shown self.now).base (length (shown self.now).memory)
             (shown self.now).line_bytes l.0 }
-        ensures { out.new ≡ handed_out (line_bytes_at (shown self.now) (shown self.now).loaded l.0) };
+        ensures { out.new
+            ≡ handed_out (line_bytes_at (shown self.now) (shown self.now).loaded l.0) };
 }

@@ -93,7 +93,8 @@ offset from to = if nat_le from to then pos (to - from) else negsuc (from - to -
 abbrev pub amount : Source → Place → List ℕ → Option ℤ
 amount source p text =
     if is_name text
-    then option_map (λ to. offset (word_address source p.words) (word_address source to.words)) (label_place source text)
+    then option_map (λ to. offset (word_address source p.words) (word_address source to.words))
+    (label_place source text)
     else Some (written_number text)
 
 -- from -sign to sign - 1

@@ -18,7 +18,8 @@ is_name_byte byte = is_letter byte || is_digit byte || byte == 95
 -- one or more letters, digits and `_`, not too many, and not beginning with a digit
 abbrev pub is_name : List ℕ → Bool
 is_name name =
-    nat_le 1 (length name) && nat_le (length name) LONGEST_NAME && list_all is_name_byte name && not (is_digit (slice_index name 0))
+    nat_le 1 (length name) && nat_le (length name) LONGEST_NAME && list_all is_name_byte name
+    && not (is_digit (slice_index name 0))
 
 -- a numeral, or `-` and a numeral other than 0
 abbrev pub is_number : List ℕ → Bool

@@ -23,9 +23,12 @@ earlier_place (Some place) later = Some place
 
 -- the old labels, with this one at this place
 abbrev pub IsPlaced : List ℕ → Place → BTreeMap (Bor (List ℕ)) Place → BTreeMap (Bor (List ℕ)) Place → Type 0
-IsPlaced label p old new = (name : List ℕ) → place_in new name ≡ (if bytes_eq label name then Some p else place_in old name)
+IsPlaced label p old new =
+    (name : List ℕ) → place_in new name
+    ≡ (if bytes_eq label name then Some p else place_in old name)
 
 -- the old labels, and this one at this place where it isn't among them
 abbrev pub HasAdded : Option (List ℕ) → Place → BTreeMap (Bor (List ℕ)) Place → BTreeMap (Bor (List ℕ)) Place → Type 0
 HasAdded label p old new =
-    (name : List ℕ) → place_in new name ≡ earlier_place (place_in old name) (if has_label name label then Some p else None)
+    (name : List ℕ) → place_in new name
+    ≡ earlier_place (place_in old name) (if has_label name label then Some p else None)

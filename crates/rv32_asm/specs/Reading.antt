@@ -32,7 +32,9 @@ take_piece (piece ∷ rest) = Some (piece, rest)
 abbrev pub register_in : List ℕ → Option ℕ
 register_in (x ∷ d ∷ []) = when (x == 120 && is_digit d) (d - 48)
 register_in (x ∷ c ∷ d ∷ []) =
-    when (x == 120 && (nat_le 49 c && is_digit c) && is_digit d && nat_lt (10 * (c - 48) + (d - 48)) 32) (10 * (c - 48) + (d - 48))
+    when
+    (x == 120 && (nat_le 49 c && is_digit c) && is_digit d && nat_lt (10 * (c - 48) + (d - 48)) 32)
+    (10 * (c - 48) + (d - 48))
 register_in _ = None
 
 unfoldable pub take_register : Pieces → Option (ℕ × Pieces)

@@ -21,7 +21,8 @@ joined_bits high bits low = high * 2 ^ bits + low
 
 -- the word of six fields: funct7, rs2, rs1, funct3, rd, opcode
 unfoldable pub word_of : ℕ → ℕ → ℕ → ℕ → ℕ → ℕ → ℕ
-word_of funct7 rs2 rs1 funct3 rd opcode = joined_bits (joined_bits (joined_bits (joined_bits (joined_bits funct7 5 rs2) 5 rs1) 3 funct3) 5 rd) 7 opcode
+word_of funct7 rs2 rs1 funct3 rd opcode =
+    joined_bits (joined_bits (joined_bits (joined_bits (joined_bits funct7 5 rs2) 5 rs1) 3 funct3) 5 rd) 7 opcode
 
 -- an immediate in bits 31 to 20
 abbrev pub word_i : ℕ → ℕ → ℕ → ℕ → ℕ → ℕ

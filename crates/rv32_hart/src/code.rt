@@ -23,7 +23,8 @@ impl Model for Code {
 
     ghost view = { λ c. record { base = c.base; bytes = c.bytes.items; ranges = c.ranges.items } };
 
-    ghost invariant = { λ c. IsCode (record { base = c.base; bytes = c.bytes.items; ranges = c.ranges.items }) };
+    ghost invariant = { λ c.
+        IsCode (record { base = c.base; bytes = c.bytes.items; ranges = c.ranges.items }) };
 }
 
 impl Code {

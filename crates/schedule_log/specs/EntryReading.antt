@@ -9,11 +9,16 @@ use Rattle.schedule_log.specs.Schedule.{count_of}
 
 -- one digit below a limit, and nothing else
 abbrev pub digit_in : ℕ → List ℕ → Option ℕ
-digit_in limit text = if (length text == 1) && nat_le 48 (slice_index text 0) && nat_lt (slice_index text 0 - 48) limit then Some (slice_index text 0 - 48) else None
+digit_in limit text =
+    if (length text == 1) && nat_le 48 (slice_index text 0) && nat_lt (slice_index text 0 - 48) limit
+    then Some (slice_index text 0 - 48)
+    else None
 
 -- h and one of eight harts, or n and one of four cores
 abbrev pub actor_in : List ℕ → Option Actor
-actor_in text = if slice_index text 0 == 104 then option_map Hart (digit_in 8 (drop 1 text)) else (if slice_index text 0 == 110 then option_map Core (digit_in 4 (drop 1 text)) else None)
+actor_in text =
+    if slice_index text 0 == 104 then option_map Hart (digit_in 8 (drop 1 text))
+    else (if slice_index text 0 == 110 then option_map Core (digit_in 4 (drop 1 text)) else None)
 
 -- a number from 1 to 65536; `count_of` takes no 0
 abbrev pub acts_in : List ℕ → Option ℕ
@@ -29,11 +34,20 @@ last_two text = length text - 2
 
 -- a core, and then acts, a space and a cause
 abbrev pub end_after : ℕ → List ℕ → Option TryEnd
-end_after core text = if nat_le 2 (length text) && (slice_index text (last_two text) == 32) then option_and_then (λ acts. option_map (λ cause. record { core = core; acts = acts; cause = cause }) (cause_in (drop (last_two text + 1) text))) (acts_in (take (last_two text) text)) else None
+end_after core text =
+    if nat_le 2 (length text) && (slice_index text (last_two text) == 32)
+    then option_and_then
+    (λ acts. option_map (λ cause. record { core = core; acts = acts; cause = cause })
+    (cause_in (drop (last_two text + 1) text)))
+    (acts_in (take (last_two text) text))
+    else None
 
 -- a core, a space, acts, a space and a cause
 abbrev pub end_in : List ℕ → Option TryEnd
-end_in text = if slice_index text 1 == 32 then option_and_then (λ core. end_after core (drop 2 text)) (digit_in 4 (take 1 text)) else None
+end_in text =
+    if slice_index text 1 == 32
+    then option_and_then (λ core. end_after core (drop 2 text)) (digit_in 4 (take 1 text))
+    else None
 
 abbrev pub commit_entry : TryEnd → Entry
 commit_entry end = Commit end.core end.acts end.cause

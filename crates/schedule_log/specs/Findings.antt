@@ -32,7 +32,8 @@ found_then (Reading_is.Bad why) number later = Fails number why ∷ []
 -- what lines say, up to and with the first bad one, where the first of them has this number
 abbrev pub found_from : ℕ → ℕ → ℕ → List (List ℕ) → List Finding
 found_from harts cores number [] = []
-found_from harts cores number (line ∷ lines) = found_then (reading harts cores line) number (found_from harts cores (number + 1) lines)
+found_from harts cores number (line ∷ lines) =
+    found_then (reading harts cores line) number (found_from harts cores (number + 1) lines)
 
 -- what the lines of a whole schedule say, counted from 1
 abbrev pub findings : ℕ → ℕ → List ℕ → List Finding
@@ -59,7 +60,10 @@ unless_bad (Some bad) found = Fails bad.line bad.why ∷ []
 -- What a reader finds in the text that follows. Where more is to come after that text, its last part counts only
 -- once it is too long for a line.
 unfoldable pub finds : Bool → Progress → List ℕ → List Finding
-finds more progress text = unless_bad progress.bad (found_from progress.harts progress.cores (progress.ended + 1) (judged_lines more (progress.begun ++ text)))
+finds more progress text =
+    unless_bad progress.bad
+    (found_from progress.harts progress.cores (progress.ended + 1)
+    (judged_lines more (progress.begun ++ text)))
 
 -- what a piece shows, whatever comes after it
 abbrev pub found_in : Progress → List ℕ → List Finding

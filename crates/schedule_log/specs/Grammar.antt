@@ -22,7 +22,9 @@ is_actor_letter byte = (byte == 104) || (byte == 110)
 
 -- h or n, one digit, one space, and one or more digits
 abbrev pub has_form : List ℕ → Bool
-has_form text = nat_le 4 (length text) && is_actor_letter (slice_index text 0) && is_digit (slice_index text 1) && (slice_index text 2 == 32) && list_all is_digit (drop 3 text)
+has_form text =
+    nat_le 4 (length text) && is_actor_letter (slice_index text 0) && is_digit (slice_index text 1)
+    && (slice_index text 2 == 32) && list_all is_digit (drop 3 text)
 
 -- the hart or core that a letter and a digit name
 abbrev pub actor_of : ℕ → ℕ → Actor
@@ -40,7 +42,10 @@ counted harts cores actor (Some count) = if is_on_chip harts cores actor then Ev
 
 -- a text of the form of a line; why 1 is another form
 abbrev pub worded : ℕ → ℕ → List ℕ → Reading
-worded harts cores text = if has_form text then counted harts cores (actor_of (slice_index text 0) (slice_index text 1)) (count_of (drop 3 text)) else Bad 1
+worded harts cores text =
+    if has_form text
+    then counted harts cores (actor_of (slice_index text 0) (slice_index text 1)) (count_of (drop 3 text))
+    else Bad 1
 
 -- a text with nothing in it is passed over
 abbrev pub blank_or_worded : ℕ → ℕ → List ℕ → Reading

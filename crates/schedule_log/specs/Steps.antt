@@ -14,11 +14,15 @@ after_line p (Bad why) = record p { bad = Some (record { line = p.ended + 1; why
 
 -- what a reader says at a byte: what the line says that the byte ends, or that it makes the line too long
 abbrev pub said_at : Progress → ℕ → Reading
-said_at p byte = if is_feed byte then reading p.harts p.cores p.begun else (if nat_lt (length p.begun) 32 then Blank else Bad 4)
+said_at p byte =
+    if is_feed byte then reading p.harts p.cores p.begun
+    else (if nat_lt (length p.begun) 32 then Blank else Bad 4)
 
 -- a reader after a byte
 abbrev pub after_byte : Progress → ℕ → Progress
-after_byte p byte = if is_feed byte then after_line p (reading p.harts p.cores p.begun) else (if nat_lt (length p.begun) 32 then record p { begun = p.begun ++ byte ∷ [] } else after_line p (Bad 4))
+after_byte p byte =
+    if is_feed byte then after_line p (reading p.harts p.cores p.begun)
+    else (if nat_lt (length p.begun) 32 then record p { begun = p.begun ++ byte ∷ [] } else after_line p (Bad 4))
 
 -- the events that a line asks for
 abbrev pub asked_by : Reading → List Finding

@@ -40,7 +40,9 @@ judged_findings harts cores bytes = found_from harts cores 1 (judged_lines (is_t
 -- the verdict on lines after so many events, and the one where nothing is wrong with them
 abbrev pub verdict_after : ℕ → Verdict → List Finding → Verdict
 verdict_after run at_end [] = at_end
-verdict_after run at_end (Asks actor count ∷ later) = if nat_le (run + count) most_events then verdict_after (run + count) at_end later else TooLarge most_events
+verdict_after run at_end (Asks actor count ∷ later) =
+    if nat_le (run + count) most_events then verdict_after (run + count) at_end later
+    else TooLarge most_events
 verdict_after run at_end (Fails line why ∷ later) = BadLine line why
 
 -- the verdict where the lines within the limit are good
@@ -54,7 +56,9 @@ schedule_verdict harts cores bytes = verdict_after 0 (verdict_at_end bytes) (jud
 -- the events of lines that run after so many others: none of a line that passes the limit, and none after it
 abbrev pub good_after : ℕ → List Finding → List Actor
 good_after run [] = []
-good_after run (Asks actor count ∷ later) = if nat_le (run + count) most_events then replicate count actor ++ good_after (run + count) later else []
+good_after run (Asks actor count ∷ later) =
+    if nat_le (run + count) most_events then replicate count actor ++ good_after (run + count) later
+    else []
 good_after run (Fails line why ∷ later) = []
 
 -- the events of a schedule that run

@@ -27,9 +27,16 @@ impl Model for Reader {
 
     ghost Value = { Progress };
 
-    ghost view = { λ r. record { harts = r.harts; cores = r.cores; ended = r.ended; begun = r.begun.items; bad = r.bad } };
+    ghost view = { λ r. record {
+      harts = r.harts;
+      cores = r.cores;
+      ended = r.ended;
+      begun = r.begun.items;
+      bad = r.bad;
+    } };
 
-    ghost invariant = { λ r. (list_any is_feed r.begun.items ≡ false) × (length r.begun.items ≤ 32) × (r.ended + 1 < 2 ^ 64) };
+    ghost invariant = { λ r. (list_any is_feed r.begun.items ≡ false)
+        × (length r.begun.items ≤ 32) × (r.ended + 1 < 2 ^ 64) };
 }
 
 impl Reader {
@@ -92,7 +99,8 @@ impl Reader {
         requires { self.old.ended < 2 ^ 62 }
         ensures feeds { Feeds self.old (take (used_by result piece.now) piece.now) (given_by result)
             self.new }
-        ensures answer { result ≡ answer_at (used_by result piece.now) (found_in self.old piece.now) }
+        ensures answer { result
+            ≡ answer_at (used_by result piece.now) (found_in self.old piece.now) }
         ensures used { IsUsed self.old result piece.now }
         ensures more { (result ≡ Fed.More (length piece.now)) ↔ (found_in self.old piece.now ≡ []) }
         ensures bad_line { (line why : ℕ) →

@@ -20,7 +20,8 @@ pub record AreAges (ages : List ℕ) (n : ℕ) (place : ℕ → ℕ) : Type 0 wh
 pub record IsRaised (old : List ℕ) (p : ℕ) (new : List ℕ) : Type 0 where
   pub len : length new ≡ length old
   pub here : slice_index new p ≡ 0
-  pub below : (k : ℕ) → k ≢ p → k < length old → slice_index old k < slice_index old p → slice_index new k ≡ slice_index old k + 1
+  pub below : (k : ℕ) → k ≢ p → k < length old → slice_index old k < slice_index old p
+      → slice_index new k ≡ slice_index old k + 1
   pub above : (k : ℕ) → k ≢ p → slice_index old p ≤ slice_index old k → slice_index new k ≡ slice_index old k
 
 -- a place becomes the oldest of n: ages above its age fall by 1
@@ -38,7 +39,8 @@ module _ {T : Type 0} where
   -- the lines that a set is seen as: those of the ages 0 to used - 1
   abbrev pub lines_by_age : List (Line × T) → List ℕ → ℕ → List (Line × Placed T)
   lines_by_age [] ages used = []
-  lines_by_age (first ∷ rest) ages used = map (λ age. placed_entry (first ∷ rest) first (place_of_age ages age)) (range_with_len 0 used)
+  lines_by_age (first ∷ rest) ages used =
+      map (λ age. placed_entry (first ∷ rest) first (place_of_age ages age)) (range_with_len 0 used)
 
   -- what the place of a line that is there tells
   pub record IsPlaceOf (entries : List (Line × T)) (ages : List ℕ) (used : ℕ) (line : Line) (p : ℕ) : Type 0 where
@@ -49,7 +51,8 @@ module _ {T : Type 0} where
   -- what a line that isn't there tells
   abbrev pub IsNowhere : List (Line × T) → List ℕ → ℕ → Line → Type 0
   IsNowhere entries ages used line =
-      (k : ℕ) (d : Line × T) → k < length entries → (slice_index_or entries k d).0.0 ≡ line.0 → used ≤ slice_index ages k
+      (k : ℕ) (d : Line × T) → k < length entries → (slice_index_or entries k d).0.0 ≡ line.0
+      → used ≤ slice_index ages k
 
   -- no line is there twice
   abbrev pub StandOnce : List (Line × T) → Type 0

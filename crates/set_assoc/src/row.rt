@@ -54,7 +54,8 @@ impl<T: Copy> Model for Row<T> {
 
     ghost view = { λ row. lines_by_age row.entries.items row.ages row.used };
 
-    ghost invariant = { λ row. IsAgedRow row.entries.items row.ages row.used × (8 ≤ vec_capacity row.entries) };
+    ghost invariant = { λ row. IsAgedRow row.entries.items row.ages row.used
+        × (8 ≤ vec_capacity row.entries) };
 }
 
 impl<T: Copy> Row<T> {
@@ -239,7 +240,8 @@ fn open_place<T: Copy>(
     ensures kept { age < length entries.old.items →
         (entries.new.items ≡ entries.old.items) × (ages.new ≡ ages.old) }
     ensures more { age ≡ length entries.old.items →
-        (entries.new.items ≡ entries.old.items ++ entry ∷ []) × (ages.new ≡ slice_set ages.old age age) }
+        (entries.new.items ≡ entries.old.items ++ entry ∷ [])
+        × (ages.new ≡ slice_set ages.old age age) }
     ensures capacity { vec_capacity entries.new ≡ vec_capacity entries.old }
 {
     if age == entries.len() {

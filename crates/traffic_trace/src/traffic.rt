@@ -19,7 +19,8 @@ impl Model for Traffic {
 
     ghost Value = { Trace };
 
-    ghost view = { λ t. record { totals = t.totals; notes = t.recent.items; kept = t.recent.capacity } };
+    ghost view = { λ t.
+        record { totals = t.totals; notes = t.recent.items; kept = t.recent.capacity } };
 }
 
 impl Traffic {
