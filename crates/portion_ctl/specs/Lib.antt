@@ -1,5 +1,5 @@
 pub mod Bodies
-pub mod LooksUp
+pub mod Looks
 pub mod Stands
 pub mod States
 pub mod Views
