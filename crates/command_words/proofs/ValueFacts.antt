@@ -7,7 +7,7 @@ use Rattle.std.specs.Str.{bytes_eq}
 use Rattle.std.proofs.lemmas.Bool.Decides.{nat_tests}
 use Rattle.std.proofs.lemmas.Option.{cond_some}
 use Rattle.std.proofs.lemmas.Slice.Eq.{bytes_eq-Decides}
-use Rattle.conda_base.specs.Digits.{number_after}
+use Rattle.conda_base.specs.Digits.{is_numeral, number_after}
 use Rattle.command_words.specs.declared.table.Kind.{Kind}
 use Rattle.command_words.specs.Options.{Given, Known, are_different, differs, file_values, fits, is_option, names_file, number_within, one_number, given_pair, suits, first_value, values_of}
 use Rattle.command_words.specs.Words.{name_in}
