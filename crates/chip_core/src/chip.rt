@@ -68,8 +68,8 @@ impl Chip {
         ensures { IfOk result (λ chip. Stands (design_for config.now image) chip []) }
     {
         let entry = image.entry();
-        let code = image.into_code();
-        let _bytes = code.base();
+        let mut code = image.into_code();
+        code.keep_decoded(alloc)?;
         let memory = Coherent::new(
             alloc,
             config.line_bytes,

@@ -2,3 +2,4 @@ mod CodeLemmas
 pub mod WordLemmas
 pub mod RegsFacts
 pub mod PlanFacts
+mod KeptFacts

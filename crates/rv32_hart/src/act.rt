@@ -56,6 +56,9 @@ pub fn plan(code: &Code, r: &Regs) -> Result<Planned, Trap>
     ensures fits { IfOk result (IsPlan code.now) }
     ensures code { IsCode code.now }
 {
+    if let Some(instr) = code.kept_instr(r.pc) {
+        return plan_instr(code, r, instr);
+    }
     let word = code.word(r.pc);
     if r.pc % 4 != 0 {
         return refuse(0, r.pc);

@@ -74,7 +74,13 @@ impl<T: Copy> PlacedSets<T> {
         ensures place { result ≡ set_of self.now line }
         ensures within { result < length self.now.lists }
     {
-        (line.0 % self.sets) as usize
+        let bits = self.sets.trailing_zeros();
+        // The usual numbers of sets are powers of two, and take no division.
+        if self.sets == 1 << bits {
+            (line.0 & ((1 << bits) - 1)) as usize
+        } else {
+            (line.0 % self.sets) as usize
+        }
     }
 
     /// The value of a line, and its place. None exactly where it isn't there.

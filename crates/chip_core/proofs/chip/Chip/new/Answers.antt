@@ -11,7 +11,7 @@ use Rattle.chip_config.proofs.RangeFacts.{accepted}
 chip-of : goal.After-result-1 → ChipView
 chip-of c = record {
   config = (settings c.args.config.now);
-  code = c.into_code-code.result;
+  code = c.keep_decoded.new.self;
   memory = c.in_ok-memory.memory;
   harts = c.in_ok-harts.harts.items;
   statuses = c.in_ok-cores.cores.statuses.items;
@@ -23,12 +23,12 @@ chip-of c = record {
 made : (c : goal.After-result-1) → Made (settings c.args.config.now) c.args.image (chip-of c)
 unfolding chip-of
 made c =
-    let code_is = c.into_code-code.ensures in
+    let code_is = c.keep_decoded.ensures.same ∙ c.into_code-code.ensures in
     record {
       config = refl;
       accepted = accepted c.args.config.now;
       code = code_is;
-      is_code = subst IsCode code_is c.base-bytes.ensures.code;
+      is_code = subst IsCode code_is c.keep_decoded.ensures.code;
       base = c.requires.base;
       bytes = c.requires.bytes;
       memory = c.in_ok-memory.ensures.unused
