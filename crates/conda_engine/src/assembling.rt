@@ -19,7 +19,7 @@ use rv32_asm::{AsmFault, assemble, plain};
 use std::alloc::Global;
 
 // How a text that is no program ends the command.
-fn status_of(fault: AsmFault) -> Status
+fn status_of_source(fault: AsmFault) -> Status
     ensures said { (text : List ℕ) → IsFault text fault → IsSaidError (image_read text) result }
     ensures end { IsAsmEnd result }
     ensures told { IsTold result }
@@ -39,7 +39,7 @@ fn image_in(alloc: Global, text: &[u8]) -> Result<Vec<u8>, Status>
 {
     match assemble(alloc, text) {
         Ok(program) => Ok(plain(alloc, &program)?),
-        Err(fault) => Err(status_of(fault)),
+        Err(fault) => Err(status_of_source(fault)),
     }
 }
 
