@@ -404,7 +404,7 @@ fn read_word(text: &[u8]) -> Option<Statement<'_>>
     }
 }
 
-#[tactic(auto, unfolding(crate::specs::Reading::said_by))]
+#[tactic(auto, unfolding(crate::specs::Reading::statement_by))]
 fn read_said<'a>(first: &[u8], rest: &'a [u8]) -> Option<Statement<'a>>
     ensures { Returns said_view result (statement_by first.now (pieces rest.now)) }
 {
