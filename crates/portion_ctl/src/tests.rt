@@ -1,14 +1,19 @@
-// Tries over a plain memory: what they come to, how they end, and states kept in a list.
+// Tries over a plain memory: what they come to, how they end, and states kept in a list. One runs
+// over a line that its holder has newer than memory.
 ghost use Rattle.std.specs.Prelude.{◌≡◌, length, IfOk};
 ghost use Rattle.line_memory.specs.Backing.{bare};
 ghost use Rattle.portion_ctl.specs.States.{FitsMemory};
+
+mod lent;
 
 use crate::{Acted, Ended, Flushed, Open, Ready, Verdict};
 use arrayvec::ArrayVec;
 use bloom_sig::Signature;
 use chip_config::Config;
 use conda_base::Line;
-use line_memory::LineMemory;
+use lent::Lent;
+use line_memory::{Backing, LineMemory};
+use nda_cache::Look;
 use rv32_hart::Code;
 use std::alloc::{AllocError, Global};
 use std::mem;
@@ -365,5 +370,119 @@ fn a_seat_is_moved_on(rt: HostRuntime) -> Result<(), Fail> {
     assert!(rt; open.locked());
     assert_eq!(rt; open.regs().pc, 0);
     assert!(rt; !open.cache().filled(Line(1)));
+    Ok(())
+}
+
+// A line with a try's instructions in front and this byte at 32.
+fn line_with(byte: u8) -> [u8; 64] {
+    let mut bytes = [0; 64];
+    bytes[..4].copy_from_slice(&LOAD.to_le_bytes());
+    bytes[4..8].copy_from_slice(&CALL_DONE.to_le_bytes());
+    bytes[8..12].copy_from_slice(&ECALL.to_le_bytes());
+    bytes[32] = byte;
+    bytes
+}
+
+fn code_of_line(alloc: Global, bytes: &[u8; 64]) -> Result<Code, AllocError>
+    ensures base { IfOk result (λ code. code.base ≡ 0) }
+    ensures bytes { IfOk result (λ code. length code.bytes ≡ 64) }
+{
+    let bytes = Vec::from_slice(alloc, bytes)?;
+    let mut ranges = ArrayVec::new();
+    ranges.push((0, 32));
+    Ok(Code::new(0, bytes, ranges))
+}
+
+// The end of a try within so many acts, with the word at 32 as the try then has it.
+fn seen_within(
+    portion: Open,
+    acts: u32,
+    code: &Code,
+    memory: &Lent,
+    log: &mut Traffic,
+) -> Option<(Look, Ended)>
+    requires { FitsMemory code.now (⟦<Lent as Backing>⟧.shown memory.now)
+        portion.limits.line_bytes }
+{
+    let mut open = portion;
+    let mut word = Look::Missing;
+    for _ in 0..acts {
+        match open.act(code, memory, log) {
+            Acted::Ran(next) => {
+                word = next.cache().look(32, 4);
+                open = next;
+            }
+            Acted::Ends(ended) => return Some((word, ended)),
+        }
+    }
+    let _ready = open.abandon();
+    None
+}
+
+// What a late flush comes to: the word at 32 as the try has it, whether the flush wrote a line
+// back, and how many notes there are before and after it.
+#[derive(Clone, Copy, Debug, PartialEq, Eq)]
+struct LateFlush {
+    word: Look,
+    wrote: bool,
+    notes: (usize, usize),
+}
+
+// A try that loads the word at 32, which clashes with the holder's store, is taken back. The
+// holder may write the line back before the flush that is due.
+fn late_flush(alloc: Global, is_written_back: bool) -> Result<Option<LateFlush>, AllocError> {
+    let config = Config::plain();
+    if config.line_bytes != 64 {
+        return Ok(None);
+    }
+    let bytes = line_with(7);
+    let code = code_of_line(alloc, &bytes)?;
+    let mut memory = Lent::stored(bytes, line_with(9));
+    let mut log = Traffic::new(alloc, 4)?;
+    let mut ready = Ready::new(alloc, 0, &config)?;
+    ready.start(0, 32);
+    let open = ready.open(false, &mut memory, &mut log);
+    let Some((word, ended)) = seen_within(open, 10, &code, &memory, &mut log) else {
+        return Ok(None);
+    };
+    match ended.judge() {
+        Verdict::Clear(clear) => {
+            let _kept = clear.keep();
+            Ok(None)
+        }
+        Verdict::Clash(clash) => {
+            let undone = clash.undo(1);
+            if is_written_back {
+                memory.write_back(&mut log);
+            }
+            let before = log.kept();
+            let wrote = match undone.flushing.step(&mut memory, &mut log) {
+                Flushed::Done(_) => false,
+                Flushed::Wrote(_) => true,
+            };
+            let notes = (before, log.kept());
+            Ok(Some(LateFlush { word, wrote, notes }))
+        }
+    }
+}
+
+#[test]
+fn a_fill_takes_the_copy_and_a_due_flush_may_end_early(rt: HostRuntime) -> Result<(), AllocError> {
+    assert_eq!(rt;
+        late_flush(rt.alloc(), false)?,
+        Some(LateFlush {
+            word: Look::Known(7),
+            wrote: true,
+            notes: (1, 2),
+        })
+    );
+    assert_eq!(rt;
+        late_flush(rt.alloc(), true)?,
+        Some(LateFlush {
+            word: Look::Known(7),
+            wrote: false,
+            notes: (2, 2),
+        })
+    );
     Ok(())
 }
