@@ -25,8 +25,8 @@ use std::alloc::{AllocError, Global};
 use std::marker::Model;
 use traffic_trace::Traffic;
 
-/// A write-back cache for each of 1 to 12 holders, over one memory and under one directory. After
-/// `new` it takes no memory.
+/// A write-back cache for each holder, over one memory and under one directory. After `new` it takes
+/// no memory.
 #[derive(Drop)]
 pub struct Coherent {
     line_bytes: u32,
@@ -52,8 +52,8 @@ impl Model for Coherent {
 }
 
 impl Coherent {
-    /// A memory with the bytes of an image, under 1 to 12 empty caches with 1 to 256 sets of 1 to 8
-    /// ways. All its memory is taken here.
+    /// A memory with the bytes of an image, under an empty cache for each holder, of which there are
+    /// at most 12, with 1 to 256 sets of 1 to 8 ways. All its memory is taken here.
     pub fn new(
         alloc: Global,
         line_bytes: u32,

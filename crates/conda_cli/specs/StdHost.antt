@@ -1,5 +1,5 @@
 -- A host that tells nothing of its files.
-use Rattle.std.specs.Prelude.{ℕ, Bool, false, List, [], Option, None, is_some, slice_index_or, slice_index}
+use Rattle.std.specs.Prelude.{ℕ, false, List, [], Option, None, is_some, slice_index_or, slice_index}
 use Rattle.conda_host.specs.State.{HostState, RoleState}
 use Rattle.conda_host.specs.Role.{index_of}
 

@@ -1,5 +1,5 @@
 -- The words of bytes, and what `dis` makes of a program.
-use Rattle.std.proofs.Common.{◌≡◌, ◌≤◌, ◌<◌, ℕ, IsTrue, List, [], ◌∷◌, sym, ◌∙◌, ap, subst, inl, inr}
+use Rattle.std.proofs.Common.{◌≡◌, ◌≤◌, ◌<◌, ℕ, IsTrue, List, ◌∷◌, sym, ◌∙◌, ap, subst, inl, inr}
 use Rattle.std.specs.Prelude.{Some}
 use Rattle.conda_host.specs.declared.outside.Role.TheVariants as role
 use Rattle.conda_host.specs.State.{HostState, IsReading}

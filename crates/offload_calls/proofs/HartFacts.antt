@@ -1,9 +1,8 @@
 -- What a step of a hart keeps, and what it makes of memory.
-use Rattle.std.proofs.Common.{◌≡◌, ◌≢◌, ℕ, zero, suc, ◌+◌, ◌-◌, ◌<◌, ◌≤◌, ◌/◌, ◌%◌, List, [], ◌∷◌, length, set, get_or, refl, sym, ap, ◌∙◌, Bool, true, false, not, ◌&&◌, cond, eqb, ltb, arith, Option, Some, None, Ok, Err, length-set}
+use Rattle.std.proofs.Common.{◌≡◌, ◌≢◌, ℕ, ◌+◌, ◌-◌, ◌<◌, ◌≤◌, ◌/◌, ◌%◌, List, [], ◌∷◌, length, refl, sym, ap, ◌∙◌, Bool, true, false, not, ◌&&◌, cond, eqb, ltb, Option, Some, None, Ok, Err}
 use Rattle.std.specs.Prelude.{All, IfOk, Result, is_some}
-use Rattle.std.proofs.lemmas.Bool.{eqb-true, eqb-false, cond_both, or_parts, and_parts, true≢false}
-use Rattle.std.proofs.lemmas.List.{get_or-set_same, get_or-set_other}
-use Rattle.std.proofs.lemmas.List.Elements.{All-nil, All-cons, All-head, All-tail}
+use Rattle.std.proofs.lemmas.Bool.{eqb-true, cond_both, and_parts, true≢false}
+use Rattle.std.proofs.lemmas.List.Elements.{All-nil}
 use Rattle.rv32_hart.specs.declared.regs.Regs.{Regs}
 use Rattle.rv32_hart.specs.declared.regs.Trap.{Trap}
 use Rattle.rv32_hart.specs.declared.act.Access.{Access}
@@ -17,7 +16,7 @@ use Rattle.offload_calls.specs.declared.status.Core.{Core}
 use Rattle.offload_calls.specs.declared.status.CoreStatus.{CoreStatus}
 use Rattle.offload_calls.specs.declared.status.CoreStatus.TheVariants as Core_is
 use Rattle.offload_calls.specs.Calls.{is_idle, is_running, waits, launches, collects}
-use Rattle.offload_calls.specs.Stores.{Inside, overlay, byte_at, latest}
+use Rattle.offload_calls.specs.Stores.{Inside, byte_at, latest}
 use Rattle.offload_calls.specs.Effects.{stores_of_access, is_call, loads_of, span_value}
 use Rattle.offload_calls.specs.State.{Setup, State, updated, status_of, launched_core}
 use Rattle.offload_calls.specs.HartAct.{HartEffect, CoreChange, Stays, Starts, Rests, hart_runs, change_of_call, plan_effect, act_effect, waits_next, steps, cores_after, hart_does, hart_stores, hart_step}

@@ -314,7 +314,8 @@ fn read_reg(op: RegOp, text: &[u8]) -> Option<(Instr, &[u8])>
 
 #[tactic(auto, unfolding(crate::specs::Reading::operands_in))]
 fn read_amo(op: AmoOp, aq: bool, rl: bool, text: &[u8]) -> Option<(Instr, &[u8])>
-    ensures { Returns (λ x. (x.0, x.1.now)) result (operands_in (Is.Amo op aq rl) (pieces text.now)) }
+    ensures { Returns (λ x. (x.0, x.1.now)) result
+        (operands_in (Is.Amo op aq rl) (pieces text.now)) }
 {
     let (rd, rs2, rs1) = read_atomic(text)?;
     Some((

@@ -5,7 +5,7 @@ use Rattle.std.proofs.lemmas.Bool.{cases_lt}
 use Rattle.rv32_decode.specs.declared.instr.Instr.{Instr}
 use Rattle.rv32_decode.specs.Ranges.{FieldsFit}
 use Rattle.rv32_hart.specs.Code.{CodeView}
-use Rattle.rv32_hart.specs.Kept.{AreKept, instr_at}
+use Rattle.rv32_hart.specs.Kept.{AreDecoded, instr_at}
 
 slice_get-front : {A : Type 0} (xs ys : List A) (n : ℕ) → n < length xs → slice_get (xs ++ ys) n ≡ slice_get xs n
 slice_get-front [] ys n h = absurd (omega arith)
@@ -20,10 +20,10 @@ slice_get-last (x ∷ xs) o i (suc n) h at =
     let last = slice_get-last xs o i n (omega arith) at in (omega (arith, last.0), last.1)
 
 -- one instruction more
-pub AreKept-push : (code : CodeView) (first : ℕ) (kept : List (Option Instr)) (o : Option Instr) → AreKept code first kept
+pub AreDecoded-push : (code : CodeView) (first : ℕ) (kept : List (Option Instr)) (o : Option Instr) → AreDecoded code first kept
     → ((i : Instr) → o ≡ Some i → (instr_at code ((first + length kept) * 4) ≡ Some i) × FieldsFit i)
-    → AreKept code first (kept ++ o ∷ [])
-AreKept-push code first kept o are new place i there =
+    → AreDecoded code first (kept ++ o ∷ [])
+AreDecoded-push code first kept o are new place i there =
     ⊎_elim
     (λ (before : place < length kept). are place i (sym (slice_get-front kept (o ∷ []) place before) ∙ there))
     (λ (past : length kept ≤ place).

@@ -10,7 +10,7 @@ abbrev pub instr_at : CodeView → ℕ → Option Instr
 instr_at code pc = option_and_then decoded (word_at code pc)
 
 -- each kept instruction is the one at its place, of which the first is word number `first` of all addresses
-abbrev pub AreKept : CodeView → ℕ → List (Option Instr) → Type 0
-AreKept code first kept =
+abbrev pub AreDecoded : CodeView → ℕ → List (Option Instr) → Type 0
+AreDecoded code first kept =
     (k : ℕ) (i : Instr) → slice_get kept k ≡ Some (Some i)
     → (instr_at code ((first + k) * 4) ≡ Some i) × FieldsFit i

@@ -4,7 +4,7 @@ ghost use Rattle.std.specs.List.{list_any};
 ghost use Rattle.conda_base.specs.Bytes.{value_at};
 ghost use Rattle.rv32_decode.specs.Ranges.{FieldsFit};
 ghost use Rattle.rv32_hart.specs.Code.{CodeView, IsCode, IsRangeIn, word_at, is_fetched};
-ghost use Rattle.rv32_hart.specs.Kept.{AreKept, instr_at};
+ghost use Rattle.rv32_hart.specs.Kept.{AreDecoded, instr_at};
 
 use arrayvec::ArrayVec;
 use rv32_decode::{Instr, decode};
@@ -34,7 +34,7 @@ struct Kept {
 impl Model for Code {
     ghost use Rattle.rv32_hart.specs.Code.{CodeView, IsCode, code_with};
     ghost use Rattle.std.specs.Prelude.{IfSome};
-    ghost use Rattle.rv32_hart.specs.Kept.{AreKept};
+    ghost use Rattle.rv32_hart.specs.Kept.{AreDecoded};
 
     ghost Value = { CodeView };
 
@@ -42,7 +42,7 @@ impl Model for Code {
 
     ghost invariant = { λ c. IsCode (code_with c.base c.bytes.items c.ranges.items)
         × IfSome c.kept (λ kept.
-        AreKept (code_with c.base c.bytes.items c.ranges.items) kept.first kept.instrs.items) };
+        AreDecoded (code_with c.base c.bytes.items c.ranges.items) kept.first kept.instrs.items) };
 }
 
 impl Code {
@@ -84,7 +84,7 @@ impl Code {
         many: u32,
     ) -> Result<Vec<Option<Instr>>, AllocError>
         requires { (first + many) * 4 ≤ 2 ^ 32 }
-        ensures { IfOk result (λ kept. AreKept self.now first kept.items) }
+        ensures { IfOk result (λ kept. AreDecoded self.now first kept.items) }
     {
         let mut kept = Vec::with_capacity(alloc, many as usize)?;
         for k in 0..many {

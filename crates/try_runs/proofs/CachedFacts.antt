@@ -8,7 +8,7 @@ use Rattle.std.proofs.lemmas.Bool.{eqb-true, eq-eqb, or_right, or_left, both_way
 use Rattle.conda_base.specs.declared.Line.{Line}
 use Rattle.conda_base.specs.LineLists.{names, with_new}
 use Rattle.try_runs.specs.Ends.{cached, in_set}
-use Rattle.conda_base.proofs.LineListLemmas.{or_false, same_line-swap, names-append, names-push, names-same, names-with_new}
+use Rattle.conda_base.proofs.LineListLemmas.{or_false, same_line-swap, names-append, names-push, names-same}
 use Rattle.try_runs.proofs.LineFacts.{AreDistinct}
 
 and_no : (b : Bool) → (b && false) ≡ false

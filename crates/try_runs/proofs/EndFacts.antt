@@ -1,5 +1,5 @@
 -- The causes that end a try: none stands before its first act.
-use Rattle.std.proofs.Common.{◌≡◌, ◌≤◌, ◌<◌, ℕ, suc, Bool, true, false, ◌&&◌, cond, eqb, [], refl, sym, ap, ◌∙◌, arith, ◌⊎◌, inl, inr, Option, Some, None, Result, Ok, Err}
+use Rattle.std.proofs.Common.{◌≡◌, ◌≤◌, ◌<◌, ℕ, Bool, true, false, ◌&&◌, cond, eqb, [], refl, sym, ap, ◌∙◌, arith, ◌⊎◌, inl, inr, Option, Some, None, Result, Ok, Err}
 use Rattle.std.proofs.lemmas.Bool.{ne_eqb, cases_lt, true≢false}
 use Rattle.conda_base.specs.declared.Line.{Line}
 use Rattle.rv32_hart.specs.declared.regs.Regs.{Regs}
@@ -8,7 +8,7 @@ use Rattle.rv32_hart.specs.declared.act.Planned.{Planned}
 use Rattle.rv32_hart.specs.Code.{CodeView}
 use Rattle.rv32_hart.specs.Act.{plan_of}
 use Rattle.try_runs.specs.declared.limits.Limits.{Limits}
-use Rattle.try_runs.specs.Ends.{first_cause, plan_causes, is_out_full, is_set_full, is_sign_full, end_of}
+use Rattle.try_runs.specs.Ends.{first_cause, plan_causes, is_set_full, is_sign_full, end_of}
 use Rattle.try_runs.specs.Fills.{Fills, try_run}
 use Rattle.try_runs.specs.Limits.{IsLimits}
 use Rattle.bloom_sig.specs.Images.{is_new}

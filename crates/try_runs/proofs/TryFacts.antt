@@ -1,7 +1,7 @@
 -- Tries over two readers of bytes, where tries store, and how they stand.
 use Rattle.std.proofs.Common.{◌≡◌, ◌≤◌, ◌<◌, ◌+◌, ℕ, zero, suc, Bool, true, false, List, length, refl, sym, ap, ◌∙◌, subst, arith, cond, eqb, Option, Some, None, Result, Ok, Err}
-use Rattle.std.specs.Prelude.{All, IfSome, IfOk, slice_index}
-use Rattle.std.proofs.lemmas.Bool.{cond_both, or_left, eqb-true, both_ways, cases_lt, ne_eqb, true≢false}
+use Rattle.std.specs.Prelude.{All, IfSome, slice_index}
+use Rattle.std.proofs.lemmas.Bool.{cond_both, or_left, eqb-true, both_ways}
 use Rattle.std.proofs.lemmas.List.Elements.{All-nil, All-append}
 use Rattle.conda_base.specs.declared.Line.{Line}
 use Rattle.conda_base.specs.Lines.{IsLineSize, line_offset}
@@ -10,8 +10,7 @@ use Rattle.rv32_hart.specs.declared.regs.Regs.{Regs}
 use Rattle.rv32_hart.specs.declared.regs.Trap.{Trap}
 use Rattle.rv32_hart.specs.declared.act.Planned.{Planned}
 use Rattle.rv32_hart.specs.Code.{CodeView, IsCode}
-use Rattle.rv32_hart.specs.Act.{IsPlan, plan_of, value_of, is_call_access}
-use Rattle.rv32_hart.proofs.PlanFacts.{plan-fits}
+use Rattle.rv32_hart.specs.Act.{value_of, is_call_access}
 use Rattle.offload_calls.specs.declared.serve.Kernel.{Kernel}
 use Rattle.offload_calls.specs.Calls.{is_idle}
 use Rattle.offload_calls.specs.Stores.{Inside, latest, number_at}
