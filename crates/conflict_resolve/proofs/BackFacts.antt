@@ -1,5 +1,5 @@
 -- The due flushes of a rollback.
-use Rattle.std.proofs.Common.{◌≡◌, ◌+◌, sym, ap, subst, ◌∙◌}
+use Rattle.std.proofs.Common.{sym, ap, subst, ◌∙◌}
 use Rattle.rv32_hart.specs.Code.{CodeView}
 use Rattle.bloom_sig.specs.Signatures.{Sets}
 use Rattle.bloom_sig.specs.Images.{IsSignatureOf, member_count}

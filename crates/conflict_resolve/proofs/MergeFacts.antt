@@ -98,7 +98,7 @@ module _ (b : BackingView) (e : Stored) (is : IsMemory b.line_bytes b.base (leng
   view-is : view_of b e.0 ≡ take n (drop start b.view)
   view-is = bytes_of_line-in b.base n e.0.0 b.view span.0
 
-  view-long : length (view_of b e.0) ≡ length (take n e.1.bytes)
+  pub view-long : length (view_of b e.0) ≡ length (take n e.1.bytes)
   view-long = ap length view-is ∙ (search (rules, places, within) ∙ sym front-long)
 
   pub merged-long : length (merged b e.0 e.1.bytes e.1.mask).view ≡ length b.view

@@ -29,7 +29,7 @@ fn merge_all<B: Backing>(c: &Clear, mem: &mut B, log: &mut Traffic)
     let core = c.core();
     let _whole_lines = mem.line_bytes();
     let mut place = 0;
-    while let Some((l, line)) = c.written(place) {
+    while let Some((l, line)) = c.written_in_place(place) {
         mem.merge(core, l, &line.bytes, line.mask, log);
         place += 1;
     }

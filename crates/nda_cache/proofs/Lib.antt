@@ -4,3 +4,4 @@ pub mod SetFacts
 pub mod StoredFacts
 pub mod TriedFacts
 pub mod LookFacts
+pub mod SlotFacts

@@ -31,8 +31,9 @@ ghost use Rattle.conda_base.specs.Marks.{mixed};
 ghost use Rattle.write_masks.specs.Marks.{Covers};
 ghost use Rattle.nda_cache.specs.Looks.{IsKnown, LooksIn};
 ghost use Rattle.set_assoc.specs.SetLists.{find, list_of, with_list};
-ghost use Rattle.nda_cache.specs.Tried.{HasRoom, IsFound, IsThere, IsTried, no_try_lines, filled_from, known_of, put_line, Stores, WritesLine};
+ghost use Rattle.nda_cache.specs.Tried.{HasRoom, IsFound, IsThere, IsTried, IsWrittenInPlace, no_try_lines, filled_from, known_of, put_line, Stores, WritesLine};
 
+use crate::slots::Slots;
 use conda_base::{Line, line_of, offset_of};
 use set_assoc::Sets;
 use std::alloc::{AllocError, Global};
@@ -42,11 +43,10 @@ use write_masks::Masked;
 /// The lines of a try. None leaves before the cache is cleared, and after `new` it takes no memory.
 #[derive(Drop)]
 pub struct NdaCache {
-    line_bytes: u32,
     sets: u32,
     ways: u32,
     index: Sets<u16>,
-    lines: Vec<(Line, Masked)>,
+    lines: Slots,
     stored: Vec<Line>,
 }
 
@@ -59,15 +59,16 @@ impl Model for NdaCache {
     ghost Value = { Tried };
 
     ghost view = { λ c. record {
-      line_bytes = c.line_bytes;
+      line_bytes = c.lines.line_bytes;
       sets = c.sets;
       ways = c.ways;
-      lines = c.lines.items;
+      lines = c.lines.lines;
       stored = c.stored.items;
     } };
 
-    ghost invariant = { λ c. IsTryStore c.line_bytes c.sets c.ways c.index c.lines.items c.stored.items
-        × (c.sets * c.ways ≤ vec_capacity c.lines) × (c.sets * c.ways ≤ vec_capacity c.stored) };
+    ghost invariant = { λ c.
+        IsTryStore c.lines.line_bytes c.sets c.ways c.index c.lines.lines c.stored.items
+        × (c.sets * c.ways ≤ c.lines.room) × (c.sets * c.ways ≤ vec_capacity c.stored) };
 }
 
 /// What the lines of a try have of the bytes of a load.
@@ -104,7 +105,7 @@ impl NdaCache {
         ensures tried { IsTried self.old }
         ensures kept { IsTried self.new }
     {
-        let line_bytes = self.line_bytes;
+        let line_bytes = self.line_bytes();
         let l = line_of(addr, line_bytes);
         let offset = offset_of(addr, line_bytes);
         let found = self.find(l);
@@ -129,6 +130,15 @@ impl NdaCache {
         }
     }
 
+    // How many bytes a line has.
+    fn line_bytes(&self) -> u32
+        ensures same { result ≡ self.now.line_bytes }
+        ensures size { IsLineSize result }
+        ensures kept { IsTried self.now }
+    {
+        self.lines.line_bytes()
+    }
+
     // Whether a line was found or its set isn't full.
     fn has_room(&self, l: Line, found: Option<usize>) -> bool
         requires { IsFound self.now l found }
@@ -145,7 +155,7 @@ impl NdaCache {
             (line_offset addr self.now.line_bytes) size result }
         ensures kept { IsTried self.now }
     {
-        let line_bytes = self.line_bytes;
+        let line_bytes = self.line_bytes();
         let found = self.find(line_of(addr, line_bytes));
         self.look_found(found, addr, size)
     }
@@ -159,7 +169,7 @@ impl NdaCache {
             (line_offset addr self.now.line_bytes) size result }
         ensures kept { IsTried self.now }
     {
-        let line_bytes = self.line_bytes;
+        let line_bytes = self.line_bytes();
         self.look_at(
             found,
             line_of(addr, line_bytes),
@@ -177,7 +187,7 @@ impl NdaCache {
         ensures kept { IsTried self.now }
     {
         match found {
-            Some(place) => look_in(&self.lines[place].1, offset, size),
+            Some(place) => self.lines.look(place, offset, size),
             None => {
                 if self.index.is_full(l) {
                     Look::Full
@@ -187,22 +197,7 @@ impl NdaCache {
             }
         }
     }
-}
 
-// Looks up the bytes of an access in its line.
-fn look_in(line: &Masked, offset: usize, size: u8) -> Look
-    requires size { IsAccessSize size }
-    requires within { offset + size ≤ 128 }
-    ensures { LooksIn line.now offset size result }
-{
-    if line.filled || line.covers(offset, size) {
-        Look::Known(line.get(offset, size))
-    } else {
-        Look::Missing
-    }
-}
-
-impl NdaCache {
     /// An empty cache with 1 to 256 sets of 1 to 8 ways. All its memory is taken here.
     pub fn new(alloc: Global, line_bytes: u32, sets: u32, ways: u32) -> Result<NdaCache, AllocError>
         requires size { IsLineSize line_bytes }
@@ -215,10 +210,9 @@ impl NdaCache {
     {
         let total = (sets * ways) as usize;
         let index = Sets::new(alloc, sets, ways)?;
-        let lines = Vec::with_capacity(alloc, total)?;
+        let lines = Slots::new(alloc, line_bytes, total)?;
         let stored = Vec::with_capacity(alloc, total)?;
         Ok(NdaCache {
-            line_bytes,
             sets,
             ways,
             index,
@@ -250,7 +244,7 @@ impl NdaCache {
         ensures { IsTrue result ↔ Covers (known_of self.now (line_at self.now.line_bytes addr)).mask
             (line_offset addr self.now.line_bytes) size }
     {
-        let line_bytes = self.line_bytes;
+        let line_bytes = self.line_bytes();
         self.covered_at(line_of(addr, line_bytes), offset_of(addr, line_bytes), size)
     }
 
@@ -261,7 +255,7 @@ impl NdaCache {
         ensures { IsTrue result ↔ Covers (known_of self.now l).mask offset size }
     {
         match self.index.peek(l) {
-            Some(place) => self.lines[place as usize].1.covers(offset, size),
+            Some(place) => self.lines.covers(place as usize, offset, size),
             None => false,
         }
     }
@@ -271,7 +265,7 @@ impl NdaCache {
         ensures { result ≡ (known_of self.now l).filled }
     {
         match self.index.peek(l) {
-            Some(place) => self.lines[place as usize].1.filled,
+            Some(place) => self.lines.is_filled(place as usize),
             None => false,
         }
     }
@@ -301,7 +295,7 @@ impl NdaCache {
         ensures kept { IsTried self.new }
     {
         let place = self.place_for(l, found);
-        fill_line(&mut self.lines[place], &from[..self.line_bytes as usize]);
+        self.lines.fill(place, from);
         place
     }
 
@@ -314,7 +308,7 @@ impl NdaCache {
         ensures { result ≡ value_at (known_of self.now (line_at self.now.line_bytes addr)).bytes
             (line_offset addr self.now.line_bytes) size }
     {
-        let line_bytes = self.line_bytes;
+        let line_bytes = self.line_bytes();
         self.read_at(line_of(addr, line_bytes), offset_of(addr, line_bytes), size)
     }
 
@@ -328,8 +322,8 @@ impl NdaCache {
         ensures { result ≡ value_at (known_of self.now (line_at self.now.line_bytes addr)).bytes
             (line_offset addr self.now.line_bytes) size }
     {
-        let offset = offset_of(addr, self.line_bytes);
-        self.lines[place].1.get(offset, size)
+        let offset = offset_of(addr, self.line_bytes());
+        self.lines.get(place, offset, size)
     }
 
     // The number at a place in a line, whose bytes were filled or stored.
@@ -340,7 +334,7 @@ impl NdaCache {
         ensures { result ≡ value_at (known_of self.now l).bytes offset size }
     {
         let place = self.index.peek(l).unwrap();
-        self.lines[place as usize].1.get(offset, size)
+        self.lines.get(place as usize, offset, size)
     }
 
     /// Stores the low 1, 2 or 4 bytes of a number, the lowest first, at an aligned address, and marks them.
@@ -352,7 +346,7 @@ impl NdaCache {
             (line_offset addr self.old.line_bytes) size value }
         ensures kept { IsTried self.new }
     {
-        let line_bytes = self.line_bytes;
+        let line_bytes = self.line_bytes();
         let found = self.find(line_of(addr, line_bytes));
         self.write_found(found, addr, size, value);
     }
@@ -368,7 +362,7 @@ impl NdaCache {
         ensures tried { IsTried self.old }
         ensures kept { IsTried self.new }
     {
-        let line_bytes = self.line_bytes;
+        let line_bytes = self.line_bytes();
         let l = line_of(addr, line_bytes);
         self.write_at(found, l, offset_of(addr, line_bytes), size, value);
     }
@@ -383,7 +377,7 @@ impl NdaCache {
         ensures kept { IsTried self.new }
     {
         let place = self.place_for(l, found);
-        let first = put_value(&mut self.lines[place], offset, size, value);
+        let first = self.lines.put(place, offset, size, value);
         if first {
             self.stored.push_reserved(l);
         }
@@ -403,7 +397,7 @@ impl NdaCache {
             None => {
                 let place = self.lines.len();
                 put_in(&mut self.index, l, place as u16);
-                self.lines.push_reserved((l, Masked::empty()));
+                self.lines.add(l);
                 place
             }
         }
@@ -417,7 +411,18 @@ impl NdaCache {
     {
         let l = nth_line(&self.stored, place)?;
         let place = self.index.peek(l).unwrap();
-        Some(self.lines[place as usize])
+        Some((l, self.lines.known(place as usize)))
+    }
+
+    /// A stored line with its marks and marked bytes, by the order of first stores. Its other bytes
+    /// mean nothing, and nothing is copied.
+    pub fn written_in_place(&self, place: usize) -> Option<(Line, &Masked)>
+        ensures line { IsWrittenInPlace self.now place (option_map (λ x. (x.0, x.1.now)) result) }
+        ensures kept { IsTried self.now }
+    {
+        let l = nth_line(&self.stored, place)?;
+        let place = self.index.peek(l).unwrap();
+        Some((l, self.lines.marked(place as usize)))
     }
 
     /// Takes every line out.
@@ -445,35 +450,6 @@ fn nth_line(lines: &[Line], place: usize) -> Option<Line>
     ensures { result ≡ slice_get lines.now place }
 {
     lines.get(place).copied()
-}
-
-// Fills a line from a copy of it.
-fn fill_line(entry: &mut (Line, Masked), copy: &[u8])
-    requires unfilled { entry.old.1.filled ≡ false }
-    requires room { length copy.now ≤ 128 }
-    ensures { entry.new ≡ (
-      entry.old.0,
-      record {
-        bytes = mixed entry.old.1.mask entry.old.1.bytes copy.now;
-        mask = entry.old.1.mask;
-        filled = true;
-      },
-    ) }
-{
-    entry.1.fill_from(copy);
-}
-
-// Stores a number into a line, and tells whether it is the first one.
-fn put_value(entry: &mut (Line, Masked), offset: usize, size: u8, value: u32) -> bool
-    requires size { IsAccessSize size }
-    requires within { offset + size ≤ 128 }
-    ensures first { result ≡ (entry.old.1.mask == 0) }
-    ensures line { entry.new.0 ≡ entry.old.0 }
-    ensures stores { Stores entry.old.1 entry.new.1 offset size value }
-{
-    let first = entry.1.mask == 0;
-    entry.1.put(offset, size, value);
-    first
 }
 
 #[cfg(test)]
@@ -522,6 +498,32 @@ mod tests {
         assert!(rt; cache.written(1).is_none());
         cache.clear();
         assert!(rt; cache.written(0).is_none());
+        Ok(())
+    }
+
+    #[test]
+    fn an_older_try_is_hidden(rt: HostRuntime) -> Result<(), AllocError> {
+        let mut cache = NdaCache::new(rt.alloc(), 32, 1, 2)?;
+        assert!(rt; cache.room(Line(0)));
+        cache.write(0, 4, 0x0102_0304);
+        cache.clear();
+        assert!(rt; cache.room(Line(1)));
+        cache.write(34, 1, 5);
+        assert_eq!(rt;
+            cache
+                .written(0)
+                .map(|(line, masked)| (line, masked.mask, masked.bytes[0])),
+            Some((Line(1), 4, 0))
+        );
+        assert_eq!(rt;
+            cache
+                .written_in_place(0)
+                .map(|(line, masked)| (line, masked.mask, masked.bytes[2])),
+            Some((Line(1), 4, 5))
+        );
+        assert!(rt; !cache.filled(Line(1)));
+        cache.fill(Line(1), &[7; 128]);
+        assert_eq!(rt; cache.read(32, 4), 0x0705_0707);
         Ok(())
     }
 }

@@ -2,5 +2,6 @@
 #![tactic(auto)]
 
 mod cache;
+mod slots;
 
 pub use cache::{Look, NdaCache, Stored};

@@ -387,7 +387,7 @@ impl Ended {
 impl Clear {
     ghost use Rattle.std.specs.Prelude.{◌≡◌, slice_get};
     ghost use Rattle.std.specs.Option.{option_map};
-    ghost use Rattle.nda_cache.specs.Tried.{known_of, IsTried};
+    ghost use Rattle.nda_cache.specs.Tried.{known_of, IsTried, IsWrittenInPlace};
     ghost use Rattle.portion_ctl.specs.Stands.{IsOpen};
     ghost use Rattle.portion_ctl.specs.States.{IsKeptOf};
 
@@ -414,6 +414,16 @@ impl Clear {
         ensures kept { IsTried self.now.try.cache }
     {
         self.body.cache.written(place)
+    }
+
+    /// A stored line with its marks and marked bytes, by the order of first stores. Its other bytes
+    /// mean nothing, and nothing is copied.
+    pub fn written_in_place(&self, place: usize) -> Option<(Line, &Masked)>
+        ensures line { IsWrittenInPlace self.now.try.cache place
+            (option_map (λ x. (x.0, x.1.now)) result) }
+        ensures kept { IsTried self.now.try.cache }
+    {
+        self.body.cache.written_in_place(place)
     }
 
     /// Keeps the registers, status and output of the try.

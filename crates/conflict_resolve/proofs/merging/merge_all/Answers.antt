@@ -1,26 +1,30 @@
 use Rattle.std.proofs.Common.{◌≡◌, ◌≤◌, ◌<◌, length, sym, ap, ◌∙◌, arith}
 use Rattle.write_masks.specs.declared.Masked.{Masked}
-use Rattle.nda_cache.specs.Tried.{Tried, IsTried}
-use Rattle.line_memory.specs.Backing.{BackingView, IsInRange}
+use Rattle.conda_base.specs.declared.Line.{Line}
+use Rattle.nda_cache.specs.Tried.{Tried, IsTried, known_of}
+use Rattle.line_memory.specs.Backing.{BackingView, IsInRange, merged}
 use Rattle.line_memory.specs.Notes.{all_noted}
 use Rattle.conflict_resolve.specs.Merges.{stored_in, all_merged, all_merge_notes}
 use Rattle.conflict_resolve.proofs.MergeFacts.{merged-long}
-use Rattle.conflict_resolve.proofs.MergeSteps.{AtPlace, at-place, line-in-range, merge-step, no-more}
+use Rattle.conflict_resolve.proofs.MergeSteps.{AtPlace, at-place, line-in-range, merge-step, merged-marked, no-more}
 use Rattle.conflict_resolve.proofs.merging.merge_all.Goals as goal
 
 pub loop-l-preserved : goal.loop-l-preserved
 loop-l-preserved g c =
     let b : BackingView = g.B.Backing.shown c.loop-l.mem in
     let cache : Tried = c.args.c.now.try.cache in
-    let at : AtPlace cache c.loop-l.place c.in-Some.l c.in-Some.line = at-place cache c.loop-l.place c.in-Some.l c.in-Some.line c.in-Some.ensures.line in
-    let step =
-    merge-step b (g.B.Backing.shown c.merge.new.self) c.core-core.result c.loop-l.place (stored_in cache) c.in-Some.l c.in-Some.line c.loop-l.log c.merge.new.log at.entry
-    c.merge.ensures.merged c.merge.ensures.notes in
+    let l : Line = c.in-Some.l in
+    let line : Masked = c.in-Some.line.now in
+    let known : Masked = known_of cache l in
+    let at : AtPlace cache c.loop-l.place l = at-place cache c.loop-l.place l c.in-Some.ensures.line.0 in
     let inv = c.loop-l.invariant in
     let tried : IsTried cache = c.in-Some.ensures.kept in
-    let room : length c.in-Some.line.bytes ≡ 128 = ap (λ (m : Masked). length m.bytes) at.known ∙ (tried.whole c.in-Some.l).room in
-    let range : IsInRange b c.in-Some.l =
-    line-in-range (g.B.Backing.shown c.args.mem.now) b cache c.loop-l.place c.in-Some.l c.in-Some.line at c.requires.in_range inv.lines inv.base inv.long in
+    let room : length known.bytes ≡ 128 = (tried.whole l).room in
+    let range : IsInRange b l = line-in-range (g.B.Backing.shown c.args.mem.now) b cache c.loop-l.place l at c.requires.in_range inv.lines inv.base inv.long in
+    let merge : g.B.Backing.shown c.merge.new.self ≡ merged b l known.bytes known.mask =
+    c.merge.ensures.merged ∙ merged-marked b l line known inv.backing.memory range room c.in-Some.ensures.line.1 in
+    let step =
+    merge-step b (g.B.Backing.shown c.merge.new.self) c.core-core.result c.loop-l.place (stored_in cache) l known c.loop-l.log c.merge.new.log at.entry merge c.merge.ensures.notes in
     let few : length cache.stored ≤ 2048 = tried.few_stored in
     let within : c.loop-l.place < length cache.stored = at.within in
     record {
@@ -31,7 +35,7 @@ loop-l-preserved g c =
       backing = c.merge.ensures.kept;
       lines = ap (λ (m : BackingView). m.line_bytes) c.merge.ensures.merged ∙ inv.lines;
       base = ap (λ (m : BackingView). m.base) c.merge.ensures.merged ∙ inv.base;
-      long = ap (λ (m : BackingView). length m.view) c.merge.ensures.merged ∙ merged-long b (c.in-Some.l, c.in-Some.line) inv.backing.memory range room ∙ inv.long;
+      long = ap (λ (m : BackingView). length m.view) merge ∙ merged-long b (l, known) inv.backing.memory range room ∙ inv.long;
     }
 
 pub returns-clause-memory : goal.returns-clause-memory
