@@ -9,6 +9,3 @@ mod reading;
 pub use config::Config;
 pub use fault::ConfigFault;
 pub use reading::read;
-
-#[cfg(test)]
-mod tests;

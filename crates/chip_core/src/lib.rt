@@ -14,8 +14,6 @@ mod loaded;
 mod machine;
 mod reporting;
 mod stage;
-#[cfg(test)]
-mod tests;
 mod turns;
 
 pub use chip::Chip;

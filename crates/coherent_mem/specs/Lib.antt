@@ -4,4 +4,3 @@ pub mod Marked
 pub mod Moves
 pub mod Parts
 pub mod Steps
-pub mod Tried

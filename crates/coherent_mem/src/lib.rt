@@ -3,8 +3,6 @@
 
 mod coherent;
 mod laws;
-#[cfg(test)]
-mod tests;
 
 pub use coherent::Coherent;
 pub use laws::atomics_store_once;

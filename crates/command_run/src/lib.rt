@@ -10,6 +10,3 @@ mod reporting;
 pub use driving::carry_out;
 pub use names::RunNames;
 pub use reporting::write_report;
-
-#[cfg(test)]
-mod tests;

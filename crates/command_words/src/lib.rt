@@ -7,6 +7,3 @@ mod options;
 mod table;
 
 pub use command::{Command, ProgramFiles, RunFiles, command_of, run_files};
-
-#[cfg(test)]
-mod tests;

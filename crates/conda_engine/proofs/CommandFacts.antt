@@ -7,18 +7,18 @@ use Rattle.conda_host.specs.State.{HostState}
 use Rattle.chip_config.specs.Settings.{Settings, configured, settings}
 use Rattle.chip_laws.specs.Design.{design_for}
 use Rattle.command_words.specs.Words.{Files}
-use Rattle.conda_engine.specs.declared.status.Status.{Status}
-use Rattle.conda_engine.specs.declared.status.Status.TheVariants as status
+use Rattle.command_answers.specs.declared.status.Status.{Status}
+use Rattle.command_answers.specs.declared.status.Status.TheVariants as status
 use Rattle.command_run.specs.Driving.{bytes_of_file}
 use Rattle.conda_engine.specs.Ends.{IsLate}
-use Rattle.conda_engine.specs.Faults.{IsAnswer, IsFaultCaused}
+use Rattle.command_answers.specs.Faults.{IsAnswer, IsFaultCaused}
 use Rattle.conda_engine.specs.Files.{aim_of}
-use Rattle.conda_engine.specs.Preparing.{IsEarly, IsReadyFor, IsUnready, OnlyOpens, PreparedView, is_config, is_first, design_in, unready_opens}
-use Rattle.conda_engine.specs.Verdict.{Account, aim_of_schedule, aim_with, design_of, design_said, settings_or_none, status_of_bytes, status_of_image, status_of_schedule}
+use Rattle.command_answers.specs.Preparing.{IsEarly, IsReadyFor, IsUnready, OnlyOpens, PreparedView, is_config, is_first, design_in, unready_opens}
+use Rattle.command_answers.specs.Verdict.{Account, aim_of_schedule, aim_with, design_of, design_said, settings_or_none, status_of_bytes, status_of_image, status_of_schedule}
 use Rattle.conda_engine.proofs.PrepareFacts.{verdict_of_image, verdict_of_schedule}
-use Rattle.conda_engine.specs.Answers.{Answers, HasCause}
+use Rattle.command_answers.specs.Answers.{Answers, HasCause}
 use Rattle.conda_engine.specs.Rows.{config_file, drive_command, drive_opens, first_files, outcome_of, read_files, run_command, run_creates, run_opens, run_outcome, schedule_outcome}
-use Rattle.conda_engine.proofs.AnswerFacts.{IsEndOf, answers_after, answers_early}
+use Rattle.command_answers.proofs.AnswerFacts.{IsEndOf, answers_after, answers_early}
 
 read_first : (files : Files) (r : Role) → is_some (read_files files r) ≡ false → is_first r ≡ false
 read_first files role.Config e = e

@@ -21,13 +21,13 @@ use Rattle.machine_run.specs.declared.ending.Ending.TheVariants as Ending_is
 use Rattle.command_run.specs.Names.{Names, CreatesOnceOpened, FaultRose, opened_by, all_files, text_files, text_uses, all_uses, run_uses}
 use Rattle.command_run.specs.Driving.{LeavesFiles, CreatedHoldsFront, CreatedHoldFronts, HasRunTexts, HasRunEvents, HoldTexts, HoldsFrontAt, TextFronts, bytes_of_file}
 use Rattle.command_words.specs.Words.{Files}
-use Rattle.conda_engine.specs.declared.status.Status.{Status}
-use Rattle.conda_engine.specs.declared.status.Status.TheVariants as status
-use Rattle.conda_engine.specs.Answers.{Answers, opened_at, uses_before}
+use Rattle.command_answers.specs.declared.status.Status.{Status}
+use Rattle.command_answers.specs.declared.status.Status.TheVariants as status
+use Rattle.command_answers.specs.Answers.{Answers, opened_at, uses_before}
 use Rattle.conda_engine.specs.Ends.{IsLate, StandsAfter, account_of, events_until}
 use Rattle.conda_engine.specs.Files.{run_names_of}
 use Rattle.conda_engine.specs.Rows.{drive_command, drive_opens, run_opens, schedule_outcome, text_of_role, status_of_run}
-use Rattle.conda_engine.specs.Verdict.{Account, Texts, all_events, events_that_run, status_of_schedule, status_of_verdict, texts_of_events}
+use Rattle.command_answers.specs.Verdict.{Account, Texts, all_events, events_that_run, status_of_schedule, status_of_verdict, texts_of_events}
 
 -- what a machine shows that stands for events is their report
 pub record ShowsReport {A : Type 0} (m : Ghosts A) (shown : A → View) (report : Design → List Actor → List ℕ) : Type 0 where

@@ -6,14 +6,14 @@ use Rattle.chip_laws.specs.Design.{Design, design_for}
 use Rattle.chip_laws.specs.Lawful.{AreLawful}
 use Rattle.command_run.specs.Driving.{bytes_of_file}
 use Rattle.command_words.specs.Words.{Files}
-use Rattle.conda_engine.specs.declared.status.Status.{Status}
-use Rattle.conda_engine.specs.declared.status.Status.TheVariants as status
-use Rattle.conda_engine.specs.Answers.{Answers}
-use Rattle.conda_engine.specs.Ends.{HoldsOfRun}
+use Rattle.command_answers.specs.declared.status.Status.{Status}
+use Rattle.command_answers.specs.declared.status.Status.TheVariants as status
+use Rattle.command_answers.specs.Answers.{Answers}
+use Rattle.conda_engine.specs.Ends.{HoldsOfRun, chip_account}
 use Rattle.conda_engine.specs.Headline.{HasHeadlineAtDone, design_of_files, events_of_files}
-use Rattle.conda_engine.specs.Preparing.{IsEarly, IsReadyFor, IsUnready, OnlyOpens, PreparedView, design_in, is_first}
+use Rattle.command_answers.specs.Preparing.{IsEarly, IsReadyFor, IsUnready, OnlyOpens, PreparedView, design_in, is_first}
 use Rattle.conda_engine.specs.Rows.{run_command, run_outcome}
-use Rattle.conda_engine.specs.Verdict.{all_events, chip_account}
+use Rattle.command_answers.specs.Verdict.{all_events}
 use Rattle.conda_engine.proofs.CommandFacts.{design_same}
 use Rattle.conda_engine.proofs.LawFacts.{run_done}
 

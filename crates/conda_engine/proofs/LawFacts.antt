@@ -11,18 +11,18 @@ use Rattle.streams.specs.Using.{KeepsTo}
 use Rattle.command_run.specs.Names.{all_files, text_files}
 use Rattle.command_run.specs.Driving.{HoldsFrontAt, CreatedHoldsFront, bytes_of_file}
 use Rattle.command_words.specs.Words.{Files, AreApart}
-use Rattle.conda_engine.specs.declared.status.Status.{Status}
-use Rattle.conda_engine.specs.declared.status.Status.TheVariants as status
-use Rattle.conda_engine.specs.Answers.{Answers, HasCause, Outcome, is_fault, uses_before}
-use Rattle.conda_engine.specs.Faults.{IsAnswer, IsComplete, IsFaultCaused}
+use Rattle.command_answers.specs.declared.status.Status.{Status}
+use Rattle.command_answers.specs.declared.status.Status.TheVariants as status
+use Rattle.command_answers.specs.Answers.{Answers, HasCause, Outcome, is_fault, uses_before}
+use Rattle.command_answers.specs.Faults.{IsAnswer, IsComplete, IsFaultCaused}
 use Rattle.conda_engine.specs.Files.{aim_of, run_names_of}
 use Rattle.conda_engine.specs.Laws.{CreatesNoOther, IsAnswerCaused, HasStoppedAt, HoldsFronts, IsCompleteCommand, IsDoneWhole, IsDriveAnswer, IsDriveComplete, IsRunAnswer, IsRunComplete, KeepsOldReport, KeepsOtherFiles, MakesNothing, NeedsSchedule, OfDrive, OfEvery, OfRun, OnlyCounts, OpensNoOther, OpensNoSchedule}
 use Rattle.conda_engine.specs.Leaves.{IsDone, IsStop, IsUnmade}
 use Rattle.conda_engine.specs.Rows.{drive_command, outcome_of, run_command, run_creates, run_opens, text_of_role}
-use Rattle.conda_engine.specs.Verdict.{Aim, aim_of_schedule, after_config, after_image, config_limit, image_limit, design_of, design_said, refusal_of, settings_or_none, status_of_bytes, status_of_image, status_of_schedule, texts_of_events}
-use Rattle.conda_engine.proofs.AnswerFacts.{answers_after, complete, not_created}
+use Rattle.command_answers.specs.Verdict.{Aim, aim_of_schedule, after_config, after_image, config_limit, image_limit, design_of, design_said, refusal_of, settings_or_none, status_of_bytes, status_of_image, status_of_schedule, texts_of_events}
+use Rattle.command_answers.proofs.AnswerFacts.{answers_after, complete, not_created}
 use Rattle.conda_engine.proofs.CommandFacts.{drive_ends_run}
-use Rattle.conda_engine.proofs.ReadingFacts.{opens_none}
+use Rattle.command_answers.proofs.ReadingFacts.{opens_none}
 use Rattle.conda_engine.proofs.EndFacts.{all_at_done}
 
 -- ---- of every command

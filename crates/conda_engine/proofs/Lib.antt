@@ -1,13 +1,6 @@
-pub mod AnswerFacts
-pub mod AssemblingFacts
 pub mod CommandFacts
-pub mod DisassemblingFacts
 pub mod EndFacts
 pub mod HeadlineFacts
-pub mod LastFileFacts
 pub mod LawFacts
-pub mod MakingFacts
 pub mod PrepareFacts
-pub mod ReadingFacts
-pub mod TextFacts
 pub mod SelfRunFacts

@@ -5,8 +5,8 @@ use Rattle.std.proofs.lemmas.Bool.Decides.{nat_tests}
 use Rattle.conda_host.specs.State.{HostState}
 use Rattle.chip_config.specs.Settings.{Settings}
 use Rattle.command_run.specs.Driving.{bytes_of_file}
-use Rattle.conda_engine.specs.Preparing.{IsConfigured}
-use Rattle.conda_engine.specs.Verdict.{config_limit, image_limit, refusal_of, design_of, status_of_bytes, status_of_image, status_of_schedule, after_config, after_image}
+use Rattle.command_answers.specs.Preparing.{IsConfigured}
+use Rattle.command_answers.specs.Verdict.{config_limit, image_limit, refusal_of, design_of, status_of_bytes, status_of_image, status_of_schedule, after_config, after_image}
 
 below : (limit n : ℕ) → n ≤ limit → nat_lt limit n ≡ false
 below limit n within = grind (arith, nat_tests)

@@ -21,10 +21,10 @@ use Rattle.self_workload.specs.Workload.{events_of_seed}
 use Rattle.self_workload.proofs.WordFacts.{length_draws}
 use Rattle.self_run.specs.Designs.{design_of_seed}
 use Rattle.self_run.specs.Generated.{HasRunFirst}
-use Rattle.conda_engine.specs.declared.status.Status.{Status}
-use Rattle.conda_engine.specs.declared.status.Status.TheVariants as status
-use Rattle.conda_engine.specs.Answers.{Answers, Outcome, uses_at}
-use Rattle.conda_engine.specs.LastFile.{file_of_role, text_outcome}
+use Rattle.command_answers.specs.declared.status.Status.{Status}
+use Rattle.command_answers.specs.declared.status.Status.TheVariants as status
+use Rattle.command_answers.specs.Answers.{Answers, Outcome, uses_at}
+use Rattle.command_answers.specs.LastFile.{file_of_role, text_outcome}
 use Rattle.conda_engine.specs.SelfRun.{self_command}
 use Rattle.conda_engine.proofs.EndFacts.{ShowsReport}
 

@@ -8,18 +8,17 @@ use Rattle.command_run.specs.Driving.{bytes_of_file}
 use Rattle.command_words.specs.Words.{Asked, Run, SelfRun, Asm, Dis, asked}
 use Rattle.self_workload.specs.Workload.{events_of_seed}
 use Rattle.self_run.specs.Designs.{design_of_seed}
-use Rattle.conda_engine.specs.declared.status.Status.{Status}
-use Rattle.conda_engine.specs.declared.status.Status.TheVariants as status
-use Rattle.conda_engine.specs.Answers.{Answers}
-use Rattle.conda_engine.specs.Assembling.{AsmAnswers, IsAsmEnd}
-use Rattle.conda_engine.specs.Disassembling.{IsDisEnd, dis_command, dis_outcome}
-use Rattle.conda_engine.specs.Ends.{IsLate}
+use Rattle.command_answers.specs.declared.status.Status.{Status}
+use Rattle.command_answers.specs.declared.status.Status.TheVariants as status
+use Rattle.command_answers.specs.Answers.{Answers}
+use Rattle.assembly_commands.specs.Assembling.{AsmAnswers, IsAsmEnd}
+use Rattle.assembly_commands.specs.Disassembling.{IsDisEnd, dis_command, dis_outcome}
+use Rattle.conda_engine.specs.Ends.{IsLate, chip_account}
 use Rattle.conda_engine.specs.Headline.{HasHeadlineAtDone}
-use Rattle.conda_engine.specs.Preparing.{IsEarly}
+use Rattle.command_answers.specs.Preparing.{IsEarly}
 use Rattle.conda_engine.specs.Rows.{run_command, run_outcome}
 use Rattle.conda_engine.specs.SelfRun.{IsSelfEnd, self_command, self_outcome}
-use Rattle.conda_engine.specs.TextLaws.{HasLoadableImageAtDone, HasTextThatComesBackAtDone}
-use Rattle.conda_engine.specs.Verdict.{chip_account}
+use Rattle.assembly_commands.specs.TextLaws.{HasLoadableImageAtDone, HasTextThatComesBackAtDone}
 
 -- what the words ask for, if they are the words of a command
 abbrev pub asked_of : List (String Global) → Option Asked

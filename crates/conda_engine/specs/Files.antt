@@ -7,7 +7,7 @@ use Rattle.command_run.specs.Driving.{bytes_of_file}
 use Rattle.command_run.specs.Names.{Names}
 use Rattle.command_words.specs.Words.{Files, run_files}
 use Rattle.conda_engine.specs.declared.files.FileWords.{FileWords}
-use Rattle.conda_engine.specs.Verdict.{Account, Aim, aim_of_bytes}
+use Rattle.command_answers.specs.Verdict.{Account, Aim, aim_of_bytes}
 
 -- the files that the words name, where they are the words of a run
 abbrev pub files_of : List (String Global) → Option Files

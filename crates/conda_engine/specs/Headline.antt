@@ -6,10 +6,11 @@ use Rattle.chip_laws.specs.Design.{Design}
 use Rattle.chip_laws.specs.Lawful.{AreLawful}
 use Rattle.command_run.specs.Driving.{bytes_of_file}
 use Rattle.command_words.specs.Words.{Files}
-use Rattle.conda_engine.specs.declared.status.Status.{Status}
-use Rattle.conda_engine.specs.declared.status.Status.TheVariants as status
+use Rattle.command_answers.specs.declared.status.Status.{Status}
+use Rattle.command_answers.specs.declared.status.Status.TheVariants as status
 use Rattle.conda_engine.specs.Leaves.{IsDone}
-use Rattle.conda_engine.specs.Verdict.{all_events, chip_account, design_said, texts_of_events}
+use Rattle.command_answers.specs.Verdict.{all_events, design_said, texts_of_events}
+use Rattle.conda_engine.specs.Ends.{chip_account}
 
 -- what the files of configuration and image say
 abbrev pub design_of_files : Files → HostState → Design

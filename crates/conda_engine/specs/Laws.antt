@@ -6,14 +6,14 @@ use Rattle.conda_host.specs.State.{HostState, IsLater, KeepsOpened, is_created, 
 use Rattle.chip_laws.specs.Design.{Design}
 use Rattle.command_run.specs.Driving.{bytes_of_file}
 use Rattle.command_words.specs.Words.{Files, AreApart}
-use Rattle.conda_engine.specs.declared.status.Status.{Status}
-use Rattle.conda_engine.specs.declared.status.Status.TheVariants as status
-use Rattle.conda_engine.specs.Answers.{Command, Outcome, Answers}
-use Rattle.conda_engine.specs.Faults.{IsAnswer, IsFaultCaused, IsComplete}
+use Rattle.command_answers.specs.declared.status.Status.{Status}
+use Rattle.command_answers.specs.declared.status.Status.TheVariants as status
+use Rattle.command_answers.specs.Answers.{Command, Outcome, Answers}
+use Rattle.command_answers.specs.Faults.{IsAnswer, IsFaultCaused, IsComplete}
 use Rattle.conda_engine.specs.Files.{aim_of}
 use Rattle.conda_engine.specs.Leaves.{IsDone, IsStop, HasStopped, HoldRunFronts, KeepsOthers, IsUnmade, MadeNothing}
 use Rattle.conda_engine.specs.Rows.{drive_command, run_command, run_outcome, schedule_outcome}
-use Rattle.conda_engine.specs.Verdict.{Account, Aim, aim_of_schedule}
+use Rattle.command_answers.specs.Verdict.{Account, Aim, aim_of_schedule}
 
 -- ---- of every command
 

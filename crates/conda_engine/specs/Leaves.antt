@@ -5,9 +5,9 @@ use Rattle.conda_host.specs.declared.outside.Role.TheVariants.{Config, Image, Sc
 use Rattle.conda_host.specs.State.{HostState, KeepsCreated, is_created}
 use Rattle.command_run.specs.Driving.{CreatedHoldsFront}
 use Rattle.command_words.specs.Words.{Files}
-use Rattle.conda_engine.specs.declared.status.Status.{Status}
-use Rattle.conda_engine.specs.declared.status.Status.TheVariants as status
-use Rattle.conda_engine.specs.Verdict.{Texts}
+use Rattle.command_answers.specs.declared.status.Status.{Status}
+use Rattle.command_answers.specs.declared.status.Status.TheVariants as status
+use Rattle.command_answers.specs.Verdict.{Texts}
 
 -- at Done the files hold their texts
 pub record IsDone (files : Files) (old new : HostState) (texts : Texts) : Type 0 where

@@ -10,11 +10,11 @@ use Rattle.machine_run.specs.declared.ending.Ending.{Ending}
 use Rattle.machine_run.specs.Going.{verdict_of}
 use Rattle.command_run.specs.Names.{all_files, text_files}
 use Rattle.command_words.specs.Words.{Files}
-use Rattle.conda_engine.specs.declared.status.Status.{Status}
-use Rattle.conda_engine.specs.declared.status.Status.TheVariants as status
-use Rattle.conda_engine.specs.Answers.{Command, Outcome, no_name}
+use Rattle.command_answers.specs.declared.status.Status.{Status}
+use Rattle.command_answers.specs.declared.status.Status.TheVariants as status
+use Rattle.command_answers.specs.Answers.{Command, Outcome, no_name}
 use Rattle.conda_engine.specs.Files.{aim_of, run_names_of}
-use Rattle.conda_engine.specs.Verdict.{Account, Aim, Texts, aim_of_schedule, status_of_verdict}
+use Rattle.command_answers.specs.Verdict.{Account, Aim, Texts, aim_of_schedule, status_of_verdict}
 
 -- ---- what it opens and creates
 

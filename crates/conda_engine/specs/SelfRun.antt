@@ -3,11 +3,11 @@ use Rattle.std.specs.Prelude.{ℕ, true, List, None}
 use Rattle.conda_host.specs.declared.outside.Role.TheVariants as role
 use Rattle.self_run.specs.Designs.{design_of_seed}
 use Rattle.self_workload.specs.Workload.{events_of_seed}
-use Rattle.conda_engine.specs.declared.status.Status.{Status}
-use Rattle.conda_engine.specs.declared.status.Status.TheVariants as status
-use Rattle.conda_engine.specs.Answers.{Command, Outcome}
-use Rattle.conda_engine.specs.LastFile.{created_last, opens_nothing, text_outcome}
-use Rattle.conda_engine.specs.Verdict.{Account}
+use Rattle.command_answers.specs.declared.status.Status.{Status}
+use Rattle.command_answers.specs.declared.status.Status.TheVariants as status
+use Rattle.command_answers.specs.Answers.{Command, Outcome}
+use Rattle.command_answers.specs.LastFile.{created_last, opens_nothing, text_outcome}
+use Rattle.command_answers.specs.Verdict.{Account}
 
 -- it opens nothing, and creates its report alone, after all memory was taken
 abbrev pub self_command : List ℕ → Command

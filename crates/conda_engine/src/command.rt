@@ -1,22 +1,20 @@
 // The commands.
 ghost use Rattle.std.specs.Prelude.{◌≡◌, ◌≢◌, ◌⊎◌, ◌↔◌, None, IfSome};
 ghost use Rattle.command_words.specs.Words.{AreApart, named};
-ghost use Rattle.conda_engine.specs.Answers.{Answers};
+ghost use Rattle.command_answers.specs.Answers.{Answers};
 ghost use Rattle.conda_engine.specs.Commands.{AnswersAsked, HoldsAtDone, IsAnswerOf, asked_of};
-ghost use Rattle.conda_engine.specs.Ends.{IsLate};
+ghost use Rattle.conda_engine.specs.Ends.{IsLate, chip_account};
 ghost use Rattle.conda_engine.specs.Headline.{HasHeadlineAtDone};
-ghost use Rattle.conda_engine.specs.Preparing.{IsEarly};
+ghost use Rattle.command_answers.specs.Preparing.{IsEarly};
 ghost use Rattle.conda_engine.specs.Rows.{run_command, run_outcome};
-ghost use Rattle.conda_engine.specs.StatusText.{IsTold};
-ghost use Rattle.conda_engine.specs.Verdict.{chip_account};
+ghost use Rattle.command_answers.specs.StatusText.{IsTold};
 
-use crate::Status;
-use crate::assembling::asm;
-use crate::disassembling::dis;
 use crate::driving::drive;
 use crate::generated::self_run;
 use crate::prepared::{Prepared, prepare_files};
+use assembly_commands::{asm, dis};
 use chip_core::Chip;
+use command_answers::Status;
 use command_words::{Command, RunFiles, command_of};
 use conda_host::Host;
 use std::alloc::Global;

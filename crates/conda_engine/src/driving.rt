@@ -4,15 +4,15 @@ ghost use Rattle.chip_laws.specs.Design.{Design};
 ghost use Rattle.command_run.specs.Driving.{bytes_of_file};
 ghost use Rattle.command_words.specs.Words.{AreApart};
 ghost use Rattle.machine_run.specs.Tasks.{IsNewTask};
-ghost use Rattle.conda_engine.specs.Answers.{Answers};
+ghost use Rattle.command_answers.specs.Answers.{Answers};
 ghost use Rattle.conda_engine.specs.Ends.{HoldsOfRun, IsLate, StandsAfter, account_of};
 ghost use Rattle.conda_engine.specs.Files.{names_in, run_names_of};
-ghost use Rattle.conda_engine.specs.Preparing.{design_in};
+ghost use Rattle.command_answers.specs.Preparing.{design_in};
 ghost use Rattle.conda_engine.specs.Rows.{drive_command, schedule_outcome, status_of_run};
 
-use crate::Status;
 use crate::files::{FileWords, run_names};
 use crate::prepared::Prepared;
+use command_answers::Status;
 use conda_host::{Host, Role};
 use machine_run::{Ending, Machine, Simulator, Task};
 use schedule_log::{MOST_BYTES, MOST_EVENTS};

@@ -7,14 +7,13 @@ ghost use Rattle.schedule_log.specs.Verdict.{most_events};
 ghost use Rattle.self_run.specs.Designs.{design_of_seed};
 ghost use Rattle.self_run.specs.Generated.{HasRunFirst};
 ghost use Rattle.self_workload.specs.Workload.{events_of_seed};
-ghost use Rattle.conda_engine.specs.Answers.{Answers};
-ghost use Rattle.conda_engine.specs.Ends.{account_of};
-ghost use Rattle.conda_engine.specs.LastFile.{text_outcome};
+ghost use Rattle.command_answers.specs.Answers.{Answers};
+ghost use Rattle.conda_engine.specs.Ends.{account_of, chip_account};
+ghost use Rattle.command_answers.specs.LastFile.{text_outcome};
 ghost use Rattle.conda_engine.specs.SelfRun.{IsSelfEnd, self_command, self_outcome};
-ghost use Rattle.conda_engine.specs.Verdict.{chip_account};
 
-use crate::Status;
 use chip_core::Chip;
+use command_answers::Status;
 use command_run::write_report;
 use conda_host::{Host, Role};
 use machine_run::{Machine, Run, Simulator, report_sinks};

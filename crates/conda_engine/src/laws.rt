@@ -1,8 +1,5 @@
 // What follows from the answers of commands.
 ghost use Rattle.conda_engine.specs.Laws.{CreatesNoOther, IsAnswerCaused, HasStoppedAt, HoldsFronts, IsCompleteCommand, IsDoneWhole, IsDriveAnswer, IsDriveComplete, IsRunAnswer, IsRunComplete, KeepsOldReport, KeepsOtherFiles, MakesNothing, NeedsSchedule, OfDrive, OfEvery, OfRun, OnlyCounts, OpensNoOther, OpensNoSchedule};
-ghost use Rattle.conda_engine.specs.TextLaws.{ComesBack, HasWords};
-
-use elf_loader::Image;
 
 /// What holds of every command.
 pub fn of_every_command()
@@ -51,11 +48,3 @@ pub fn of_drive_files()
     ensures unopened { OfDrive NeedsSchedule }
     ensures report { OfDrive KeepsOldReport }
 {}
-
-/// The text that `dis` writes of an image is assembled to the image's entry and words again.
-pub fn image_text_comes_back(image: &Image)
-    requires { HasWords image.now }
-    ensures { ComesBack image.now }
-{
-    let _base = image.code().base();
-}

@@ -2,13 +2,12 @@
 ghost use Rattle.std.specs.Prelude.{◌≡◌, ◌↔◌, None, Err, IfOk, IfErr, IfSome};
 ghost use Rattle.command_words.specs.Words.{AreApart, named};
 ghost use Rattle.conda_engine.specs.Files.{files_of};
-ghost use Rattle.conda_engine.specs.Preparing.{IsReadyFor, IsUnready, OnlyOpens, prepare_opens};
-ghost use Rattle.conda_engine.specs.StatusText.{IsTold};
+ghost use Rattle.command_answers.specs.Preparing.{IsReadyFor, IsUnready, OnlyOpens, prepare_opens};
+ghost use Rattle.command_answers.specs.StatusText.{IsTold};
 
-use crate::Status;
 use crate::files::{FileWords, copy_names};
-use crate::loading::{load_image, read_config};
 use chip_config::Config;
+use command_answers::{Status, load_image, read_config};
 use command_words::{RunFiles, run_files};
 use conda_host::Host;
 use elf_loader::Image;
@@ -32,7 +31,7 @@ impl<M: Simulator> Model for Prepared<M> {
     ghost use Rattle.command_words.specs.Words.{AreApart};
     ghost use Rattle.machine_run.specs.Tasks.{IsNewTask};
     ghost use Rattle.conda_engine.specs.Files.{names_in};
-    ghost use Rattle.conda_engine.specs.Preparing.{PreparedView};
+    ghost use Rattle.command_answers.specs.Preparing.{PreparedView};
 
     ghost Value = { PreparedView };
 
@@ -55,7 +54,7 @@ impl<M: Simulator> Prepared<M> {
     ghost use Rattle.command_words.specs.Words.{AreApart, named};
     ghost use Rattle.machine_run.specs.Tasks.{IsNewTask};
     ghost use Rattle.conda_engine.specs.Files.{names_in};
-    ghost use Rattle.conda_engine.specs.Preparing.{design_in};
+    ghost use Rattle.command_answers.specs.Preparing.{design_in};
 
     // Takes the memory of a run.
     fn new(

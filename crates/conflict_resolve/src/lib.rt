@@ -4,8 +4,6 @@
 ghost use Rattle.conflict_resolve.specs.InRange.{StoresInRange};
 
 mod merging;
-#[cfg(test)]
-mod tests;
 mod undoing;
 
 pub use merging::commit;

@@ -10,8 +10,6 @@ mod judging;
 mod laws;
 mod memory;
 mod segment;
-#[cfg(test)]
-mod tests;
 
 pub use fault::ImageFault;
 pub use image::{Image, load};

@@ -3,8 +3,6 @@
 
 mod serve;
 mod status;
-#[cfg(test)]
-mod tests;
 
 pub use serve::{Kernel, Served, is_put, serve_core, serve_hart, waits};
 pub use status::{Core, CoreStatus, Hart, HartStatus};

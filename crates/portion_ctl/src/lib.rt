@@ -7,8 +7,6 @@ mod acts;
 mod body;
 mod exchange;
 mod portion;
-#[cfg(test)]
-mod tests;
 mod walks;
 
 pub use portion::{

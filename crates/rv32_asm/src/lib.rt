@@ -15,8 +15,6 @@ mod place;
 mod reading;
 mod statement;
 mod survey;
-#[cfg(test)]
-mod tests;
 
 pub use assembling::{Program, assemble};
 pub use fault::AsmFault;

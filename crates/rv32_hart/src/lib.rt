@@ -5,8 +5,6 @@ mod act;
 mod arithmetic;
 mod code;
 mod regs;
-#[cfg(test)]
-mod tests;
 
 pub use act::{Access, Planned, finish, plan};
 pub use arithmetic::amo_result;

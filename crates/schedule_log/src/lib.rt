@@ -16,6 +16,3 @@ pub use fed::{Fed, Last};
 pub use laws::{actors_are_on_chip, fine_runs_all, one_text_one_entry, pieces_join};
 pub use limits::{MOST_BYTES, MOST_EVENTS};
 pub use reader::Reader;
-
-#[cfg(test)]
-mod tests;

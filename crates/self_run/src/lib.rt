@@ -4,7 +4,5 @@
 mod generated;
 mod loading;
 mod running;
-#[cfg(test)]
-mod tests;
 
 pub use running::run_workload;

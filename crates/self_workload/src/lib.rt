@@ -4,8 +4,6 @@
 mod draws;
 mod image;
 mod settings;
-#[cfg(test)]
-mod tests;
 
 pub use draws::Draws;
 pub use image::{Workload, generate};

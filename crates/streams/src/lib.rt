@@ -19,6 +19,3 @@ pub use sink_files::SinkFiles;
 pub use sinks::Sinks;
 pub use streams::{MOST_PUT, Streams};
 pub use whole::put_all;
-
-#[cfg(test)]
-mod tests;

@@ -3,8 +3,6 @@
 
 mod laws;
 mod limits;
-#[cfg(test)]
-mod tests;
 
 pub use laws::{
     portions_are_serial, tries_are_never_idle, tries_depend_on_reads, tries_end_after_an_act,

@@ -1,6 +1,6 @@
 use Rattle.std.proofs.Common.{Some, inl, inr}
 use Rattle.command_words.specs.Words.{named}
-use Rattle.conda_engine.specs.Verdict.{chip_account}
+use Rattle.conda_engine.specs.Ends.{chip_account}
 use Rattle.conda_engine.proofs.CommandFacts.{answers_for, unready_for}
 use Rattle.conda_engine.proofs.HeadlineFacts.{headline_for, unready_headline}
 use Rattle.conda_engine.proofs.command.run.Goals as goal

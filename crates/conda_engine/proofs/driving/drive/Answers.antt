@@ -1,8 +1,8 @@
 use Rattle.std.proofs.Common.{subst}
 use Rattle.command_run.specs.Driving.{bytes_of_file}
-use Rattle.conda_engine.specs.Answers.{Answers}
+use Rattle.command_answers.specs.Answers.{Answers}
 use Rattle.conda_engine.specs.Ends.{StandsAfter, account_of, events_until}
-use Rattle.conda_engine.specs.Preparing.{design_in}
+use Rattle.command_answers.specs.Preparing.{design_in}
 use Rattle.conda_engine.specs.Rows.{drive_command, schedule_outcome}
 use Rattle.conda_engine.proofs.driving.drive.Goals as goal
 

@@ -1,7 +1,7 @@
 use Rattle.std.proofs.Common.{subst}
-use Rattle.conda_engine.specs.Answers.{Answers}
+use Rattle.command_answers.specs.Answers.{Answers}
 use Rattle.conda_engine.specs.Ends.{account_of}
-use Rattle.conda_engine.specs.LastFile.{text_outcome}
+use Rattle.command_answers.specs.LastFile.{text_outcome}
 use Rattle.conda_engine.specs.SelfRun.{self_command, self_outcome}
 use Rattle.conda_engine.proofs.SelfRunFacts.{is_unmade, report_of_first}
 use Rattle.conda_engine.proofs.generated.report_on.Goals as goal

@@ -1,6 +1,6 @@
 use Rattle.chip_config.specs.Settings.{settings}
 use Rattle.std.proofs.lemmas.Result.{err_from_is_err_and}
-use Rattle.conda_engine.proofs.ReadingFacts.{config_unread, image_unread, reads_both}
+use Rattle.command_answers.proofs.ReadingFacts.{config_unread, image_unread, reads_both}
 use Rattle.conda_engine.proofs.prepared.prepare_files.Goals as goal
 
 pub returns-clause-rest : goal.returns-clause-rest

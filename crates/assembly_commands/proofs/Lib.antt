@@ -1,0 +1,4 @@
+pub mod AssemblingFacts
+pub mod DisassemblingFacts
+pub mod MakingFacts
+pub mod TextFacts

@@ -1,0 +1,4 @@
+pub mod Assembling
+pub mod Disassembling
+pub mod Making
+pub mod TextLaws

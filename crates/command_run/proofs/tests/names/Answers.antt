@@ -1,4 +1,0 @@
-use Rattle.command_run.proofs.tests.names.Goals as goal
-
-pub returns-clause-apart : goal.returns-clause-apart
-returns-clause-apart c = record { order_report = λ same. cc; order_output = tt; report_output = tt }

@@ -1,5 +1,0 @@
-use Rattle.std.proofs.Common.{◌≡◌}
-use Rattle.conflict_resolve.proofs.tests.seen_within.Given as goal
-
-abbrev pub invariant-loop : goal.invariant-loop
-invariant-loop l = l.open.limits ≡ l.fn.portion.limits
