@@ -16,7 +16,8 @@ use Rattle.conda_host.specs.Role.{index_of}
 use Rattle.conda_host.specs.Memory.{Input, File, IsFirst, input_at, input_bytes, file_of, created_at, unused_slot, no_file, created_bytes, owns, owned_by, own_file, left_of, file_at, file_with, empty_file_for, find_file, files_made, are_distinct, names_held, names_given, is_among, role_slot, role_with, role_of, host_state}
 use Rattle.conda_host.proofs.Roles.{index_injective, index_small}
 use Rattle.conda_host.proofs.Steps.{writing_of_reading}
-use Rattle.conda_host.specs.MemoryHost.{IsStart, HostRules, called, rooms_of, CountsNothing, TakesName}
+use Rattle.conda_host.specs.MemoryHost.{IsStart, HostRules, called, rooms_of, TakesName}
+use Rattle.conda_host.specs.Counts.{CountsNothing}
 use Rattle.std.proofs.lemmas.Bool.Decides.{nat_tests}
 use Rattle.conda_host.proofs.Finds.{input_apart, first_name, first_length, find_set_same, find_set_other, first_of_held, first_unique, same_name, other_name}
 

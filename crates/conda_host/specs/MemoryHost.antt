@@ -6,6 +6,7 @@ use Rattle.std.specs.declared.string.String.{String}
 use Rattle.conda_host.specs.declared.outside.Role.{Role}
 use Rattle.conda_host.specs.declared.outside.HostFailed.{HostFailed}
 use Rattle.conda_host.specs.declared.memory.MemoryHost.{MemoryHost}
+use Rattle.conda_host.specs.Counts.{CountsCall}
 use Rattle.conda_host.specs.State.{HostState}
 use Rattle.conda_host.specs.Memory.{Input, File, input_at, is_among, created_at, files_seen, own_file, room_of, role_slot, host_state, stands_in}
 
@@ -85,21 +86,6 @@ is_output m n = is_among (map (λ place. place.0) (rules_of m).places) n
 -- an output of that name was created
 abbrev pub was_created : MemoryHost → List ℕ → Bool
 was_created m n = created_at (files_seen m.outputs.items) n
-
--- no count rose
-pub record CountsNothing (old new : HostState) : Type 0 where
-  pub same : (r : Role) (n : List ℕ) → new.faults r n ≡ old.faults r n
-
--- the count of a role is one more for every name, as far as it goes, and no other rose
-pub record CountsOne (old new : HostState) (role : Role) : Type 0 where
-  pub one : (n : List ℕ) → new.faults role n ≡ min (old.faults role n + 1) (2 ^ 64 - 1)
-  pub others : (r : Role) (n : List ℕ) → r ≢ role → new.faults r n ≡ old.faults r n
-
--- a call that failed is counted, once
-abbrev pub CountsCall : {A : Type 0}
-    → HostState → HostState → Role → Result A HostFailed → Type 0
-CountsCall old new role (Ok value) = CountsNothing old new
-CountsCall old new role (Err fault) = CountsOne old new role
 
 -- a call was counted, and its failure
 pub record Serves {A : Type 0} (old new : MemoryHost) (role : Role) (result : Result A HostFailed)
