@@ -3,7 +3,7 @@ use Rattle.chip_laws.specs.Lawful.{AlwaysLawful}
 use Rattle.chip_laws.proofs.EntryLaws.{flat_is_run}
 use Rattle.chip_laws.proofs.FlushFacts.{bounded}
 use Rattle.chip_laws.proofs.SoundFacts.{owners}
-use Rattle.chip_laws.proofs.TotalFacts.{balanced}
+use Rattle.chip_laws.proofs.PrintedFacts.{balanced}
 use Rattle.chip_laws.proofs.UntouchedFacts.{untouched}
 
 pub lawful : AlwaysLawful

@@ -12,6 +12,7 @@ pub mod LockFacts
 pub mod NoteCounts
 pub mod OwnerFacts
 pub mod PlaceFacts
+pub mod PrintedFacts
 pub mod QuietFacts
 pub mod RollbackFacts
 pub mod SoundFacts

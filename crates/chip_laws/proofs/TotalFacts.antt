@@ -168,7 +168,7 @@ miss-count ways h n m ts some short out =
 
 -- ---- balance of all harts
 
-abbrev count : Kind → List Note → ℕ
+abbrev pub count : Kind → List Note → ℕ
 count kind ns = notes_that (is_kind kind) ns
 
 pub record Total (ns : List Note) (before after : ℕ) : Type 0 where
@@ -189,7 +189,7 @@ total-of ns a b f v d hf hv hd e = record { even = omega arith }
 total-same : (ns : List Note) (a b : ℕ) → a ≡ b → count Kind_is.Fill ns ≡ 0 → count Kind_is.Evict ns ≡ 0 → count Kind_is.Drop ns ≡ 0 → Total ns a b
 total-same ns a b e f v d = record { even = omega arith }
 
-skip : (q : Note → Bool) (kind : Kind) → ((k : ℕ) (l : Line) → q (note_of kind k l) ≡ false) → Skips q kind
+pub skip : (q : Note → Bool) (kind : Kind) → ((k : ℕ) (l : Line) → q (note_of kind k l) ≡ false) → Skips q kind
 skip q kind s = record { skips = s }
 
 abbrev tag_count : Shape → Tags → ℕ
@@ -254,22 +254,22 @@ drops-at c tags i n k e = ap (λ b. count Kind_is.Drop (cond b [] (leave_notes n
 drops-self : (c : Shape) (tags : Tags) (i : ℕ) (n : Line) → other_drops c tags i n i ≡ 0
 drops-self c tags i n = ap (λ b. count Kind_is.Drop (cond b [] (leave_notes n i (held_state c tags i n)))) (eq-eqb i i refl)
 
-abbrev leave_kind : Kind → Type 0
+abbrev pub leave_kind : Kind → Type 0
 leave_kind kind = (l : Line) (k : ℕ) (x : Option Mesi) → count kind (leave_notes l k x) ≡ 0
 
-fills-leave : leave_kind Kind_is.Fill
+pub fills-leave : leave_kind Kind_is.Fill
 fills-leave l k x = leave-none (is_kind Kind_is.Fill) (skip _ Kind_is.Back (λ k n. refl)) (skip _ Kind_is.Drop (λ k n. refl)) l k x
 
 evicts-leave : leave_kind Kind_is.Evict
 evicts-leave l k x = leave-none (is_kind Kind_is.Evict) (skip _ Kind_is.Back (λ k n. refl)) (skip _ Kind_is.Drop (λ k n. refl)) l k x
 
-downs-total : (q : Note → Bool) → Skips q Kind_is.Back → Skips q Kind_is.Down → (c : Shape) (tags : Tags) (i : ℕ) (n : Line) → notes_that q (others_notes down_notes c tags i n) ≡ 0
+pub downs-total : (q : Note → Bool) → Skips q Kind_is.Back → Skips q Kind_is.Down → (c : Shape) (tags : Tags) (i : ℕ) (n : Line) → notes_that q (others_notes down_notes c tags i n) ≡ 0
 downs-total q s t c tags i n = others-none q down_notes (down-none q s t) c tags i n
 
 abbrev evicted : Shape → Tags → ℕ → Line → ℕ
 evicted c tags i n = count Kind_is.Evict (room_notes c.ways i (tags i (set_number c n)))
 
-fill-fills : (c : Shape) (tags : Tags) (i : ℕ) (n : Line) → count Kind_is.Fill (fill_notes c tags i n) ≡ 1
+pub fill-fills : (c : Shape) (tags : Tags) (i : ℕ) (n : Line) → count Kind_is.Fill (fill_notes c tags i n) ≡ 1
 fill-fills c tags i n =
     let room = room-none (is_kind Kind_is.Fill) (skip _ Kind_is.Back (λ k m. refl)) (skip _ Kind_is.Evict (λ k m. refl)) c.ways i (tags i (set_number c n)) in
     let both : count Kind_is.Fill (fill_notes c tags i n) ≡ count Kind_is.Fill (room_notes c.ways i (tags i (set_number c n))) + 1 =
@@ -289,7 +289,7 @@ fill-drops c tags i n =
     that-append (is_kind Kind_is.Drop) (room_notes c.ways i (tags i (set_number c n))) (note_of Kind_is.Fill i n ∷ []) in
     omega arith
 
-then-count : (q : Note → Bool) (xs ys : List Note) (a b : ℕ) → notes_that q xs ≡ a → notes_that q ys ≡ b → notes_that q (xs ++ ys) ≡ a + b
+pub then-count : (q : Note → Bool) (xs ys : List Note) (a b : ℕ) → notes_that q xs ≡ a → notes_that q ys ≡ b → notes_that q (xs ++ ys) ≡ a + b
 then-count q xs ys a b x y = that-append q xs ys ∙ (λ i. x i + y i)
 
 -- ---- an access
@@ -507,7 +507,7 @@ commit-drops c tags j (n ∷ lines) sets fits o =
     let cons = named_count-cons c tags n lines sets fits o.0 in
     omega arith
 
-commit-kind : (kind : Kind) → leave_kind kind → ((j : ℕ) (l : Line) → is_kind kind (note_of Kind_is.Merge j l) ≡ false)
+pub commit-kind : (kind : Kind) → leave_kind kind → ((j : ℕ) (l : Line) → is_kind kind (note_of Kind_is.Merge j l) ≡ false)
     → (c : Shape) (tags : Tags) (j : ℕ) (lines : List Line) → count kind (commit_notes c tags j lines) ≡ 0
 commit-kind kind none merge c tags j [] = refl
 commit-kind kind none merge c tags j (n ∷ lines) =
@@ -623,16 +623,3 @@ totals p s is u =
     let none = no_tags p.config.harts p.config.hart_sets in
     let t = (world-total p (start_world p) s (caches-fit p is) (start-fits p) u (total-same [] 0 _ (sym none) refl refl refl)).even in
     omega arith
-
-pub balanced : AlwaysBalanced
-balanced p s is u =
-    record {
-      lines = λ h l below.
-          let b = (world-bal p (start_world p) s h l (caches-fit p is) (start-fits p) below (bal-empty h l false false refl)).even in omega arith;
-      corefills =
-          let all = world-corefills p (start_world p) s (start-sound p is) u in
-          let none = none_open p p.config.cores in
-          omega arith;
-      merges = world-merges p (start_world p) s ∙ sym (plus_none (all_writes p s));
-      totals = totals p s is u;
-    }

@@ -1,6 +1,6 @@
--- What came into caches left them or is there, and what was filled and merged is what tries read
--- and stored.
-use Rattle.std.specs.Prelude.{ℕ, zero, suc, ◌≡◌, ◌<◌, ◌==◌, ◌+◌, ◌&&◌, Bool, List, [], ◌∷◌, length, is_some, if◌then◌else◌}
+-- What came into caches left them or is there, what was filled and merged is what tries read and
+-- stored, and what a report prints of it is counts.
+use Rattle.std.specs.Prelude.{ℕ, zero, suc, ◌≡◌, ◌<◌, ◌==◌, ◌+◌, ◌-◌, ◌^◌, ◌&&◌, min, Bool, List, [], ◌∷◌, drop, length, is_some, if◌then◌else◌}
 use Rattle.std.specs.List.{AllByRecursion}
 use Rattle.conda_base.specs.declared.Line.{Line}
 use Rattle.conda_base.specs.declared.actor.Actor.{Actor}
@@ -9,7 +9,8 @@ use Rattle.schedule_log.specs.declared.entry.Entry.TheVariants.{Commit, Back}
 use Rattle.traffic_trace.specs.declared.note.Kind.{Kind}
 use Rattle.traffic_trace.specs.declared.note.Kind.TheVariants.{Fill, Drop, Evict, CoreFill, Merge}
 use Rattle.traffic_trace.specs.declared.note.Note.{Note}
-use Rattle.traffic_trace.specs.Notes.{place_of}
+use Rattle.traffic_trace.specs.Notes.{Trace, no_notes, place_of, total_of}
+use Rattle.line_memory.specs.Notes.{all_noted}
 use Rattle.line_memory.specs.Tags.{Tag, Tags, Shape, held_state, each_below}
 use Rattle.conda_base.specs.LineLists.{same_line}
 use Rattle.chip_laws.specs.Design.{Design, IsDesign, IsActorOf, hart_shape}
@@ -86,11 +87,36 @@ TotalsBalance d w =
     kind_count w Fill
     ≡ kind_count w Evict + kind_count w Drop + length (all_tags (hart_shape d) w.tags)
 
+-- what a report prints of the traffic: all notes of the events, noted where none was before
+abbrev pub printed_trace : Design → World → Trace
+printed_trace d w = all_noted (no_notes d.config.trace_last) w.notes
+
+-- the printed total of a kind
+abbrev pub printed_total : Design → World → Kind → ℕ
+printed_total d w kind = total_of (printed_trace d w) kind
+
+-- printed fills are printed drops, printed evictions and the number of tags
+abbrev pub FillsBalance : Design → World → Type 0
+FillsBalance d w =
+    printed_total d w Fill
+    ≡ printed_total d w Drop + printed_total d w Evict + length (all_tags (hart_shape d) w.tags)
+
+-- What is printed is counts: a total is the number of notes of its kind, or 2 ^ 64 - 1 where there
+-- are more, and the notes are the last ones. An event has at most one fill, so the totals of fewer
+-- than 2 ^ 64 events balance too.
+pub record Printed (d : Design) (events : List Actor) : Type 0 where
+  pub totals : (kind : Kind)
+      → printed_total d (world d events) kind ≡ min (kind_count (world d events) kind) (2 ^ 64 - 1)
+  pub last : let notes = (world d events).notes in
+      (printed_trace d (world d events)).notes ≡ drop (length notes - d.config.trace_last) notes
+  pub fills : length events < 2 ^ 64 → FillsBalance d (world d events)
+
 pub record Balance (d : Design) (events : List Actor) : Type 0 where
   pub lines : LinesBalance d (world d events)
   pub corefills : kind_count (world d events) CoreFill ≡ all_reads d events
   pub merges : kind_count (world d events) Merge ≡ all_writes d events
   pub totals : TotalsBalance d (world d events)
+  pub printed : Printed d events
 
 abbrev pub AlwaysBalanced : Type 0
 AlwaysBalanced =
