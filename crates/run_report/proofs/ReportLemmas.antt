@@ -1,14 +1,11 @@
 -- Pieces of the report, one after another.
 use Rattle.std.proofs.Common.{◌≡◌, ℕ, ◌+◌, ◌-◌, ◌*◌, ◌/◌, ◌<◌, ◌≤◌, ◌^◌, List, [], ◌++◌, length, take, replicate, refl, sym, ◌∙◌, ap, subst, arith, append_assoc, add-one, suc, zero, true, false, nat_eq, Bool, ◌∷◌, ⊎_elim, get_or}
-use Rattle.std.specs.Prelude.{Result, Ok, Err, OnOk, OnErr, Some, None}
+use Rattle.std.specs.Prelude.{Result, Ok, Err, OnErr, Some, None}
 use Rattle.std.specs.List.{flat_map, slice_get, All}
 use Rattle.std.proofs.Math.Seq.{take-suc}
 use Rattle.std.proofs.lemmas.List.{append-nil}
 use Rattle.std.proofs.lemmas.Grind.{flat_map-append}
 use Rattle.std.proofs.lemmas.Option.{slice_get_cases, slice_get_within, get_or_from_slice_get}
-use Rattle.conda_host.specs.declared.outside.Role.TheVariants.{Report}
-use Rattle.streams.specs.Seen.{Seen}
-use Rattle.streams.proofs.PutFacts.{puts_nothing, puts_trans, puts_front, front_and_more}
 use Rattle.rv32_hart.specs.declared.regs.Regs.{Regs}
 use Rattle.offload_calls.specs.declared.status.HartStatus.{HartStatus}
 use Rattle.offload_calls.specs.declared.status.CoreStatus.{CoreStatus}
@@ -20,57 +17,40 @@ use Rattle.conda_base.proofs.LineLemmas.{line_bytes_in_memory, line_size_cases}
 use Rattle.conda_base.specs.Bytes.{handed_out}
 use Rattle.run_report.specs.View.{View, IsShown, line_bytes_at}
 use Rattle.run_report.specs.Texts.{changed_line_text, texts_below, register_text, registers_text, hart_line_text, core_line_text, hart_text, core_text, harts_text, cores_text, changed_text, changes_text, text_if_some, tag_text, slot_text, set_text, cache_text, caches_text, note_text, note_at_text, notes_text}
-use Rattle.run_report.specs.Writes.{Wrote, WrotePart}
+use Rattle.run_report.specs.Writes.{IsWriting, Writes}
 
-pub wrote_nothing : (a : Seen) → Wrote a a []
-wrote_nothing a = puts_nothing a Report
-
-pub wrote_then : {a b c : Seen} {s t : List ℕ} → Wrote a b s → Wrote b c t → Wrote a c (s ++ t)
-wrote_then p q = puts_trans p q
-
-pub part_then : {a b c : Seen} {s t : List ℕ} → Wrote a b s → WrotePart b c t → WrotePart a c (s ++ t)
-part_then p q = puts_front p q
-
-pub part_and_more : {a b : Seen} {s : List ℕ} (t : List ℕ) → WrotePart a b s → WrotePart a b (s ++ t)
-part_and_more t p = front_and_more t p
-
--- what holds on Ok, and on Err
-pub on_ok_map : {T E P Q : Type 0} (r : Result T E) → (P → Q) → OnOk r P → OnOk r Q
-on_ok_map (Ok x) f p = f p
-on_ok_map (Err e) f p = tt
-
-pub on_err_map : {T E P Q : Type 0} (r : Result T E) → (P → Q) → OnErr r P → OnErr r Q
-on_err_map (Ok x) f p = tt
-on_err_map (Err e) f p = f p
-
+-- what holds on Err, and where a call failed, whatever it is
 pub on_err : {T E P : Type 0} (r : Result T E) → P → OnErr r P
 on_err (Ok x) p = tt
 on_err (Err e) p = p
 
--- two pieces, of which the second is the last call, and a first piece that fails
-pub two_ok : {T E : Type 0} (r : Result T E) {a b : Seen} (c : Seen) {s : List ℕ} (t : List ℕ) {whole : List ℕ} → whole ≡ s ++ t → Wrote a b s → OnOk r (Wrote b c t) → OnOk r (Wrote a c whole)
-two_ok r {a = a} c t is p q = on_ok_map r (λ last. subst (λ x. Wrote a c x) (sym is) (wrote_then p last)) q
+-- the same text by another name
+pub same_text : {A E : Type 0} {wrote : A → A → List ℕ → Type 0} {stopped : A → A → E → List ℕ → Type 0} → IsWriting wrote stopped → (r : Result (Unit {0}) E) (a b : A) {s t : List ℕ} → s ≡ t → Writes wrote stopped a b s r → Writes wrote stopped a b t r
+same_text {wrote = wrote} {stopped = stopped} laws r a b is w = subst (λ text. Writes wrote stopped a b text r) is w
 
-pub two_err : {T E : Type 0} (r : Result T E) {a b : Seen} (c : Seen) {s : List ℕ} (t : List ℕ) {whole : List ℕ} → whole ≡ s ++ t → Wrote a b s → OnErr r (WrotePart b c t) → OnErr r (WrotePart a c whole)
-two_err r {a = a} c t is p q = on_err_map r (λ last. subst (λ x. WrotePart a c x) (sym is) (part_then p last)) q
+-- two pieces, of which the second is the last call
+pub then_last : {A E : Type 0} {wrote : A → A → List ℕ → Type 0} {stopped : A → A → E → List ℕ → Type 0} → IsWriting wrote stopped → (r : Result (Unit {0}) E) (a b c : A) (s t : List ℕ) {whole : List ℕ} → whole ≡ s ++ t → wrote a b s → Writes wrote stopped b c t r → Writes wrote stopped a c whole r
+then_last {wrote = wrote} {stopped = stopped} laws (Ok done) a b c s t is p q = subst (λ text. wrote a c text) (sym is) (laws.both a b c s t p q)
+then_last {wrote = wrote} {stopped = stopped} laws (Err stop) a b c s t is p q = subst (λ text. stopped a c stop text) (sym is) (laws.after a b c stop s t p q)
 
-pub one_err : {T E : Type 0} (r : Result T E) {a b : Seen} {s : List ℕ} (t : List ℕ) {whole : List ℕ} → whole ≡ s ++ t → WrotePart a b s → OnErr r (WrotePart a b whole)
-one_err r {a = a} {b = b} t is p = on_err r (subst (λ x. WrotePart a b x) (sym is) (part_and_more t p))
+-- a piece that stopped, and others that would have followed
+pub stops_first : {A E : Type 0} {wrote : A → A → List ℕ → Type 0} {stopped : A → A → E → List ℕ → Type 0} → IsWriting wrote stopped → (a b : A) (stop : E) (s t : List ℕ) {whole : List ℕ} → whole ≡ s ++ t → stopped a b stop s → stopped a b stop whole
+stops_first {stopped = stopped} laws a b stop s t is p = subst (λ text. stopped a b stop text) (sym is) (laws.early a b stop s t p)
 
 -- a loop over pieces: none, one more, and all
-pub loop_none : (a : Seen) (text : ℕ → List ℕ) → Wrote a a (texts_below text 0)
+pub loop_none : {A E : Type 0} {wrote : A → A → List ℕ → Type 0} {stopped : A → A → E → List ℕ → Type 0} → IsWriting wrote stopped → (a : A) (text : ℕ → List ℕ) → wrote a a (texts_below text 0)
 unfolding texts_below
-loop_none a text = wrote_nothing a
+loop_none laws a text = laws.nothing a
 
 texts_next : (text : ℕ → List ℕ) (n : ℕ) → texts_below text (n + 1) ≡ texts_below text n ++ text n
 unfolding texts_below
 texts_next text n = rw (add-one) refl
 
-pub loop_next : {a b c : Seen} (text : ℕ → List ℕ) (n : ℕ) → Wrote a b (texts_below text n) → Wrote b c (text n) → Wrote a c (texts_below text (n + 1))
-loop_next {a = a} {c = c} text n p q = subst (λ t. Wrote a c t) (sym (texts_next text n)) (wrote_then p q)
+pub loop_next : {A E : Type 0} {wrote : A → A → List ℕ → Type 0} {stopped : A → A → E → List ℕ → Type 0} → IsWriting wrote stopped → (a b c : A) (text : ℕ → List ℕ) (n : ℕ) → wrote a b (texts_below text n) → wrote b c (text n) → wrote a c (texts_below text (n + 1))
+loop_next {wrote = wrote} laws a b c text n p q = subst (λ t. wrote a c t) (sym (texts_next text n)) (laws.both a b c (texts_below text n) (text n) p q)
 
-pub loop_all : {a b : Seen} {whole : List ℕ} (text : ℕ → List ℕ) (n all : ℕ) → whole ≡ texts_below text all → n ≡ all → Wrote a b (texts_below text n) → Wrote a b whole
-loop_all {a = a} {b = b} text n all is end p = subst (λ t. Wrote a b t) (ap (texts_below text) end ∙ sym is) p
+pub loop_all : {A E : Type 0} {wrote : A → A → List ℕ → Type 0} {stopped : A → A → E → List ℕ → Type 0} → IsWriting wrote stopped → (a b : A) {whole : List ℕ} (text : ℕ → List ℕ) (n all : ℕ) → whole ≡ texts_below text all → n ≡ all → wrote a b (texts_below text n) → wrote a b whole
+loop_all {wrote = wrote} laws a b text n all is end p = subst (λ t. wrote a b t) (ap (texts_below text) end ∙ sym is) p
 
 -- what the pieces that are left add
 texts_left : (text : ℕ → List ℕ) (n k : ℕ) → (rest : List ℕ) × (texts_below text (n + k) ≡ texts_below text n ++ rest)
@@ -81,12 +61,14 @@ texts_left text n (suc k) =
     let more : n + suc k ≡ suc (n + k) = omega arith in
     (left.0 ++ text (n + k), ap (texts_below text) more ∙ ap (λ t. t ++ text (n + k)) left.1 ∙ append_assoc (texts_below text n) left.0 (text (n + k)))
 
--- a loop fails in its piece n
-pub loop_err : {T E : Type 0} (r : Result T E) {a b c : Seen} {whole : List ℕ} (text : ℕ → List ℕ) (n all : ℕ) → whole ≡ texts_below text all → n < all → Wrote a b (texts_below text n) → WrotePart b c (text n) → OnErr r (WrotePart a c whole)
-loop_err r text n all is below p q =
+-- a loop stops in its piece n
+pub loop_stops : {A E : Type 0} {wrote : A → A → List ℕ → Type 0} {stopped : A → A → E → List ℕ → Type 0} → IsWriting wrote stopped → (a b c : A) (stop : E) {whole : List ℕ} (text : ℕ → List ℕ) (n all : ℕ) → whole ≡ texts_below text all → n < all → wrote a b (texts_below text n) → stopped b c stop (text n) → stopped a c stop whole
+loop_stops laws a b c stop text n all is below p q =
     let left = texts_left text (n + 1) (all - (n + 1)) in
     let sum : n + 1 + (all - (n + 1)) ≡ all = omega arith in
-    one_err r left.0 (is ∙ ap (texts_below text) (sym sum) ∙ left.1 ∙ ap (λ t. t ++ left.0) (texts_next text n)) (part_then p q)
+    stops_first laws a c stop (texts_below text n ++ text n) left.0
+    (is ∙ ap (texts_below text) (sym sum) ∙ left.1 ∙ ap (λ t. t ++ left.0) (texts_next text n))
+    (laws.after a b c stop (texts_below text n) (text n) p q)
 
 -- the loops of the report
 pub registers_are : (x : List ℕ) → registers_text x ≡ texts_below (register_text x) 32

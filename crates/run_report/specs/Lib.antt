@@ -1,3 +1,4 @@
+pub mod FlatText
 pub mod Runs
 pub mod Texts
 pub mod View

@@ -2,12 +2,17 @@
 #![tactic(auto)]
 
 mod hex;
+mod laws;
 mod line;
 mod report;
+mod report_file;
 mod shown;
+mod target;
 
-pub use report::write;
+pub use laws::reports_have_flat_parts;
+pub use report::{write, write_flat, write_report};
 pub use shown::Shown;
+pub use target::ReportTarget;
 
 #[cfg(test)]
 mod tests;

@@ -1,27 +1,26 @@
 use Rattle.std.proofs.Common.{arith}
-use Rattle.std.specs.Prelude.{None}
+use Rattle.std.proofs.lemmas.Result.{err_from_is_err_and}
 use Rattle.run_report.specs.Texts.{core_text}
-use Rattle.run_report.proofs.ReportLemmas.{cores_are, loop_all, loop_err, loop_next, loop_none}
+use Rattle.run_report.proofs.ReportLemmas.{cores_are, loop_all, loop_next, loop_none, loop_stops}
 use Rattle.run_report.proofs.report.write_cores.Goals as goal
 
 pub loop-number-init : goal.loop-number-init
-loop-number-init g c = record {
-  text = loop_none (g.S.Streams.seen c.args.streams.now) (core_text (g.C.Shown.shown c.args.chip.now));
-  leads = g.met.S.Streams.stays c.args.streams.now;
-}
-
-pub returns-in_err-write_core-clause-err : goal.returns-in_err-write_core-clause-err
-returns-in_err-write_core-clause-err g c =
+loop-number-init g c =
     let v = g.C.Shown.shown c.args.chip.now in
-    loop_err c.from_residual.result (core_text v) c.loop-number.number v.cores (cores_are v) (omega arith) c.loop-number.invariant.text c.in_err-write_core.ensures.err
+    loop_none g.met.T.ReportTarget.joins c.args.target.now (core_text v)
 
 pub loop-number-preserved : goal.loop-number-preserved
-loop-number-preserved g c = record {
-  text = loop_next (core_text (g.C.Shown.shown c.args.chip.now)) c.loop-number.number c.loop-number.invariant.text c.in_ok-write_core.ensures.ok;
-  leads = g.met.S.Streams.goes_on c.args.streams.now c.loop-number.streams c.write_core.new.streams None c.loop-number.invariant.leads c.in_ok-write_core.ensures.leads;
-}
-
-pub returns-clause-ok : goal.returns-clause-ok
-returns-clause-ok g c =
+loop-number-preserved g c =
     let v = g.C.Shown.shown c.args.chip.now in
-    loop_all (core_text v) c.loop-number.number v.cores (cores_are v) (omega arith) c.loop-number.invariant.text
+    loop_next g.met.T.ReportTarget.joins c.args.target.now c.loop-number.target c.write_core.new.target (core_text v) c.loop-number.number c.loop-number.invariant c.in_ok-write_core.ensures
+
+pub returns-in_err-write_core : goal.returns-in_err-write_core
+returns-in_err-write_core g c =
+    let v = g.C.Shown.shown c.args.chip.now in
+    let p = err_from_is_err_and c.from_residual.result c.from_residual.ensures.1 in
+    rw (p.1, p.2) (loop_stops g.met.T.ReportTarget.joins c.args.target.now c.loop-number.target c.write_core.new.target c.in_err-write_core.field-0.0 (core_text v) c.loop-number.number v.cores (cores_are v) (omega arith) c.loop-number.invariant c.in_err-write_core.ensures)
+
+pub returns : goal.returns
+returns g c =
+    let v = g.C.Shown.shown c.args.chip.now in
+    loop_all g.met.T.ReportTarget.joins c.args.target.now c.loop-number.target (core_text v) c.loop-number.number v.cores (cores_are v) (omega arith) c.loop-number.invariant

@@ -1,27 +1,22 @@
 use Rattle.std.proofs.Common.{arith}
-use Rattle.std.specs.Prelude.{None}
+use Rattle.std.proofs.lemmas.Result.{err_from_is_err_and}
 use Rattle.run_report.specs.Texts.{register_text}
-use Rattle.run_report.proofs.ReportLemmas.{loop_all, loop_err, loop_next, loop_none, registers_are}
+use Rattle.run_report.proofs.ReportLemmas.{registers_are, loop_all, loop_next, loop_none, loop_stops}
 use Rattle.run_report.proofs.report.write_registers.Goals as goal
 
 pub loop-number-init : goal.loop-number-init
-loop-number-init g c = record {
-  text = loop_none (g.S.Streams.seen c.args.streams.now) (register_text c.args.regs.now.x);
-  leads = g.met.S.Streams.stays c.args.streams.now;
-}
-
-pub returns-in_err-write_register-clause-err : goal.returns-in_err-write_register-clause-err
-returns-in_err-write_register-clause-err g c =
-    let x = c.args.regs.now.x in
-    loop_err c.from_residual.result (register_text x) c.loop-number.number 32 (registers_are x) (omega arith) c.loop-number.invariant.text c.in_err-write_register.ensures.err
+loop-number-init g c =
+    loop_none g.met.T.ReportTarget.joins c.args.target.now (register_text c.args.regs.now.x)
 
 pub loop-number-preserved : goal.loop-number-preserved
-loop-number-preserved g c = record {
-  text = loop_next (register_text c.args.regs.now.x) c.loop-number.number c.loop-number.invariant.text c.in_ok-write_register.ensures.ok;
-  leads = g.met.S.Streams.goes_on c.args.streams.now c.loop-number.streams c.write_register.new.streams None c.loop-number.invariant.leads c.in_ok-write_register.ensures.leads;
-}
+loop-number-preserved g c =
+    loop_next g.met.T.ReportTarget.joins c.args.target.now c.loop-number.target c.write_register.new.target (register_text c.args.regs.now.x) c.loop-number.number c.loop-number.invariant c.in_ok-write_register.ensures
 
-pub returns-clause-ok : goal.returns-clause-ok
-returns-clause-ok g c =
-    let x = c.args.regs.now.x in
-    loop_all (register_text x) c.loop-number.number 32 (registers_are x) (omega arith) c.loop-number.invariant.text
+pub returns-in_err-write_register : goal.returns-in_err-write_register
+returns-in_err-write_register g c =
+    let p = err_from_is_err_and c.from_residual.result c.from_residual.ensures.1 in
+    rw (p.1, p.2) (loop_stops g.met.T.ReportTarget.joins c.args.target.now c.loop-number.target c.write_register.new.target c.in_err-write_register.field-0.0 (register_text c.args.regs.now.x) c.loop-number.number 32 (registers_are c.args.regs.now.x) (omega arith) c.loop-number.invariant c.in_err-write_register.ensures)
+
+pub returns : goal.returns
+returns g c =
+    loop_all g.met.T.ReportTarget.joins c.args.target.now c.loop-number.target (register_text c.args.regs.now.x) c.loop-number.number 32 (registers_are c.args.regs.now.x) (omega arith) c.loop-number.invariant

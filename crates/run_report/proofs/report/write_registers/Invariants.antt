@@ -1,10 +1,5 @@
-use Rattle.std.specs.Prelude.{None}
 use Rattle.run_report.specs.Texts.{texts_below, register_text}
-use Rattle.run_report.specs.Writes.{Wrote}
 use Rattle.run_report.proofs.report.write_registers.Given as goal
 
 abbrev pub invariant-loop-number : goal.invariant-loop-number
-invariant-loop-number g l = record {
-  text : Wrote (g.S.Streams.seen l.fn.streams) (g.S.Streams.seen l.streams) (texts_below (register_text l.regs.x) l.number);
-  leads : g.S.Streams.leads l.fn.streams l.streams None;
-}
+invariant-loop-number g l = g.T.ReportTarget.wrote l.fn.target l.target (texts_below (register_text l.regs.x) l.number)
