@@ -1,0 +1,14 @@
+pub mod ActFacts
+pub mod ConverseFacts
+pub mod FlatFacts
+pub mod HartFacts
+pub mod JournalFacts
+pub mod ListFacts
+pub mod MachineFacts
+pub mod MarkFacts
+pub mod OrderFacts
+pub mod PortionFacts
+pub mod StepFacts
+pub mod TryFacts
+pub mod WalkFacts
+pub mod WalkerFacts

@@ -1,0 +1,14 @@
+pub mod Accepting
+pub mod Acts
+pub mod Clean
+pub mod FlatText
+pub mod Flats
+pub mod HartActs
+pub mod Laws
+pub mod Marks
+pub mod Orders
+pub mod Portions
+pub mod Tries
+pub mod Verdict
+pub mod Walkers
+pub mod Walks
