@@ -1,4 +1,5 @@
 pub mod ActFacts
+pub mod CheckerFacts
 pub mod ConverseFacts
 pub mod FlatFacts
 pub mod HartFacts
@@ -8,6 +9,7 @@ pub mod MachineFacts
 pub mod MarkFacts
 pub mod OrderFacts
 pub mod PortionFacts
+pub mod ShownFacts
 pub mod StepFacts
 pub mod TryFacts
 pub mod WalkFacts

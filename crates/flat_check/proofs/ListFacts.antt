@@ -1,5 +1,5 @@
 -- Lists with one member changed.
-use Rattle.std.proofs.Common.{◌≡◌, ◌≢◌, ◌<◌, ℕ, zero, suc, Bool, true, false, cond, ltb, eqb, List, [], ◌∷◌, length, get_or, set, refl, sym, ap, ◌∙◌, subst, arith, ◌⊎◌, inl, inr, Option, Some, None}
+use Rattle.std.proofs.Common.{◌≡◌, ◌≢◌, ◌<◌, ◌+◌, ◌++◌, ℕ, zero, suc, Bool, true, false, cond, ltb, eqb, List, [], ◌∷◌, length, replicate, get_or, set, refl, sym, ap, ◌∙◌, subst, arith, ◌⊎◌, inl, inr, Option, Some, None}
 use Rattle.std.specs.Prelude.{slice_get}
 use Rattle.std.proofs.lemmas.Bool.{cond-true, cond-false, cases_eq, eq-eqb, eqb-true, ne_eqb, lt-ltb}
 use Rattle.std.proofs.lemmas.Bool.Decides.{nat_tests}
@@ -67,3 +67,10 @@ status-updated n statuses cores j c long all k = go (cases_eq k j)
 -- an element that was read, and the list after a write there
 pub read_is : {A : Type 0} (xs : List A) (i : ℕ) (d x : A) → i < length xs → slice_get xs i ≡ Some x → get_or xs i d ≡ x
 read_is {A} xs i d x u at = let same : ◌≡◌ {A = Option A} (Some (get_or xs i d)) (Some x) = sym (slice_get-get_or xs i d u) ∙ at in cc
+
+one-more : (n : ℕ) → suc (n + 1) ≡ suc n + 1
+one-more n = omega arith
+
+pub replicate-more : {A : Type 0} (n : ℕ) (x : A) → replicate n x ++ x ∷ [] ≡ replicate (n + 1) x
+replicate-more zero x = refl
+replicate-more (suc n) x = ap (λ xs. x ∷ xs) (replicate-more n x) ∙ ap (λ k. replicate k x) (one-more n)

@@ -1,5 +1,5 @@
 -- The open tries of a machine after an entry.
-use Rattle.std.proofs.Common.{◌≡◌, ◌≢◌, ◌<◌, ◌≤◌, ◌+◌, ◌-◌, ◌/◌, ◌^◌, ◌++◌, ◌||◌, ◌&&◌, not, ℕ, zero, suc, Bool, true, false, cond, eqb, min, List, [], length, set, refl, sym, ap, ◌∙◌, subst, arith, ◌⊎◌, inl, inr, Option, Some, None}
+use Rattle.std.proofs.Common.{◌≡◌, ◌≢◌, ◌<◌, ◌≤◌, ◌+◌, ◌-◌, ◌/◌, ◌^◌, ◌++◌, ◌||◌, ◌&&◌, not, ℕ, zero, suc, Bool, true, false, cond, eqb, min, List, [], ◌∷◌, length, set, refl, sym, ap, ◌∙◌, subst, arith, ◌⊎◌, inl, inr, Option, Some, None}
 use Rattle.std.specs.Prelude.{slice_get, slice_index_or}
 use Rattle.std.specs.Option.{option_map}
 use Rattle.std.proofs.lemmas.Bool.{false≢true, cases_eq}
@@ -139,6 +139,13 @@ all-fit-set marks j m code all fits k u = go (cases_eq k j)
     go (inl same) =
         subst (λ (x : Marked). FitsImage x code) (sym (ap (marks_at (set marks j m)) same ∙ marks_at-set_same marks j m (subst (λ n. n < length marks) same within))) fits
     go (inr other) = subst (λ (x : Marked). FitsImage x code) (sym (marks_at-set_other marks j k m other)) (all k within)
+
+-- the marks of one core more
+pub all-fit-push : (marks : List Marked) (m : Marked) (code : CodeView) → AllFitImage marks code → FitsImage m code → AllFitImage (marks ++ m ∷ []) code
+all-fit-push [] m code all fits zero u = fits
+all-fit-push [] m code all fits (suc k) u = absurd (omega arith)
+all-fit-push (x ∷ marks) m code all fits zero u = all 0 (omega arith)
+all-fit-push (x ∷ marks) m code all fits (suc k) u = all-fit-push marks m code (λ i v. all (suc i) (omega arith)) fits k (omega arith)
 
 -- the same marks under another name
 pub all-fit-as : (marks others : List Marked) (code : CodeView) → marks ≡ others → AllFitImage others code → AllFitImage marks code

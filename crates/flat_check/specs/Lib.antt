@@ -1,5 +1,6 @@
 pub mod Accepting
 pub mod Acts
+pub mod Checkers
 pub mod Clean
 pub mod FlatText
 pub mod Flats

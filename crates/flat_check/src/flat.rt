@@ -1,7 +1,8 @@
 // One flat memory with its harts and near-data cores.
-ghost use Rattle.std.specs.Prelude.{ℕ, ◌≡◌, ◌+◌, ◌<◌, ◌≤◌, ◌^◌, List, [], length, slice_set};
+ghost use Rattle.std.specs.Prelude.{ℕ, ◌≡◌, ◌+◌, ◌<◌, ◌≤◌, ◌^◌, List, [], length, replicate, slice_get, slice_set, IfOk, Some};
+ghost use Rattle.rv32_hart.specs.Regs.{start_regs};
 ghost use Rattle.rv32_hart.specs.Act.{AccessFits};
-ghost use Rattle.offload_calls.specs.State.{Setup, State, launched_core};
+ghost use Rattle.offload_calls.specs.State.{Setup, State, launched_core, start_hart};
 ghost use Rattle.flat_check.specs.Flats.{FitsFlat, HasMadeAct, HasMadePortion, HasStepped, ShowsFlat, core_with, flat_parts, with_launch};
 ghost use Rattle.flat_check.specs.Portions.{AllFitImage, MarksStored, marks_at};
 ghost use Rattle.flat_check.specs.Marks.{Marked};
@@ -10,8 +11,9 @@ use crate::acts::{Launch, core_act, hart_turn, is_running_core};
 use crate::marks::Marks;
 use crate::portions::{count_of, run_portion};
 use arrayvec::ArrayVec;
-use offload_calls::{Core, CoreStatus, Hart};
+use offload_calls::{Core, CoreStatus, Hart, HartStatus};
 use rv32_hart::{Access, Code, Regs};
+use std::alloc::{AllocError, Global};
 
 /// Flat memory, the harts, the cores' statuses and registers, and how many bytes were put.
 #[derive(Drop)]
@@ -24,6 +26,33 @@ pub struct Flat {
 }
 
 impl Flat {
+    /// Memory as loaded, each hart at the entry and each core idle. All memory is taken here.
+    pub fn new(
+        alloc: Global,
+        code: &Code,
+        entry: u32,
+        harts: u32,
+        cores: u32,
+    ) -> Result<Flat, AllocError>
+        requires { cores ≤ 4 }
+        ensures memory { IfOk result (λ flat. flat.memory.items ≡ code.now.bytes) }
+        ensures many { IfOk result (λ flat. length flat.harts.items ≡ harts) }
+        ensures harts { IfOk result (λ flat. (h : ℕ) → h < harts
+            → slice_get flat.harts.items h ≡ Some (start_hart entry harts h)) }
+        ensures statuses { IfOk result (λ flat.
+            flat.statuses.items ≡ replicate cores CoreStatus.Idle) }
+        ensures regs { IfOk result (λ flat. flat.regs.items ≡ replicate cores (start_regs 0)) }
+        ensures output { IfOk result (λ flat. flat.output ≡ 0) }
+    {
+        Ok(Flat {
+            memory: code.bytes().to_vec(alloc)?,
+            harts: start_harts(alloc, harts, entry)?,
+            statuses: idle_cores(cores),
+            regs: vec![in alloc; Regs::new(0); cores as usize]?,
+            output: 0,
+        })
+    }
+
     /// One act of a hart, where it makes one: what it accessed.
     pub fn step(&mut self, code: &Code, h: u8) -> Access
         requires fits { FitsFlat code.now (flat_parts self.old) }
@@ -145,4 +174,34 @@ fn launched(entry: u32, arg: u32) -> Regs
     let mut regs = Regs::new(entry);
     regs.x[10] = arg;
     regs
+}
+
+// The harts at the entry, each with its number in x10 and the number of harts in x11.
+fn start_harts(alloc: Global, many: u32, entry: u32) -> Result<Vec<Hart>, AllocError>
+    ensures many { IfOk result (λ harts. length harts.items ≡ many) }
+    ensures start { IfOk result (λ harts. (h : ℕ) → h < many
+        → slice_get harts.items h ≡ Some (start_hart entry many h)) }
+{
+    let mut harts = Vec::with_capacity(alloc, many as usize)?;
+    for number in 0..many {
+        let mut regs = Regs::new(entry);
+        regs.x[10] = number;
+        regs.x[11] = many;
+        harts.push(Hart {
+            regs,
+            status: HartStatus::Run,
+        })?;
+    }
+    Ok(harts)
+}
+
+fn idle_cores(many: u32) -> ArrayVec<CoreStatus, 4>
+    requires { many ≤ 4 }
+    ensures { result.items ≡ replicate many CoreStatus.Idle }
+{
+    let mut statuses = ArrayVec::new();
+    for j in 0..many {
+        statuses.push(CoreStatus::Idle);
+    }
+    statuses
 }

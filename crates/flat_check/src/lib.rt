@@ -2,15 +2,19 @@
 #![tactic(auto)]
 
 mod acts;
+mod checker;
 mod flat;
 mod laws;
+mod lines;
 mod marks;
 mod portions;
 mod refusal;
 mod tries;
 mod walker;
 
+pub use checker::Checker;
 pub use laws::{
+    checkers_show_flat_texts,
     fine_orders_are_sound, reports_have_flat_parts, runs_are_accepted, sound_orders_are_fine,
 };
 pub use refusal::Refusal;

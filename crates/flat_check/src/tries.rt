@@ -1,11 +1,13 @@
 // The open tries of the cores.
-ghost use Rattle.std.specs.Prelude.{ℕ, ◌≡◌, ◌<◌, ◌≤◌, length, slice_set, None, Option};
+ghost use Rattle.std.specs.Prelude.{ℕ, ◌≡◌, ◌%◌, ◌^◌, ◌<◌, ◌≤◌, length, replicate, IfOk, slice_set, None, Option};
 ghost use Rattle.offload_calls.specs.State.{Setup};
 ghost use Rattle.rv32_hart.specs.Code.{CodeView};
 ghost use Rattle.flat_check.specs.Tries.{FitsTries, ShowsTries, counted, opened, try_parts};
 ghost use Rattle.flat_check.specs.Walks.{Watched, has_acts};
 
 use crate::marks::Marks;
+use rv32_hart::Code;
+use std::alloc::{AllocError, Global};
 
 /// Of each core: how many acts its open try has, if one is open; and marks on what others stored since it was opened.
 /// A number of acts stands still at 2^32 - 1, which no end of a try names.
@@ -16,6 +18,22 @@ pub struct Tries {
 }
 
 impl Tries {
+    /// No open tries. All memory is taken here.
+    pub fn new(alloc: Global, code: &Code, cores: u32) -> Result<Tries, AllocError>
+        requires even { code.now.base % 32 ≡ 0 }
+        requires room { length code.now.bytes < 2 ^ 32 }
+        ensures acts { IfOk result (λ tries. tries.acts.items ≡ replicate cores None) }
+        ensures fits { IfOk result (λ tries. FitsTries code.now cores (try_parts tries)) }
+    {
+        let bytes = code.bytes().len() as u32;
+        let acts = vec![in alloc; None; cores as usize]?;
+        let mut marks = Vec::with_capacity(alloc, cores as usize)?;
+        for j in 0..cores {
+            marks.push(Marks::new(alloc, bytes)?)?;
+        }
+        Ok(Tries { acts, marks })
+    }
+
     /// Core j opens a try. This takes no time in the size of memory.
     pub fn open(&mut self, j: u8)
         requires acts { j < length self.old.acts.items }
