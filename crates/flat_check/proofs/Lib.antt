@@ -5,9 +5,11 @@ pub mod FlatFacts
 pub mod HartFacts
 pub mod JournalFacts
 pub mod ListFacts
+pub mod LowestFacts
 pub mod MachineFacts
 pub mod MarkFacts
 pub mod OrderFacts
+pub mod OrderTextFacts
 pub mod PortionFacts
 pub mod ShownFacts
 pub mod StepFacts

@@ -7,6 +7,7 @@ pub mod Flats
 pub mod HartActs
 pub mod Laws
 pub mod Marks
+pub mod OrderTexts
 pub mod Orders
 pub mod Portions
 pub mod Tries

@@ -14,7 +14,8 @@ mod walker;
 
 pub use checker::Checker;
 pub use laws::{
-    checkers_show_flat_texts,
-    fine_orders_are_sound, reports_have_flat_parts, runs_are_accepted, sound_orders_are_fine,
+    accepted_texts_are_orders, checkers_show_flat_texts, fine_orders_are_sound,
+    order_texts_are_accepted, overwrites_are_lowest, reports_have_flat_parts, runs_are_accepted,
+    sound_orders_are_fine,
 };
 pub use refusal::Refusal;
