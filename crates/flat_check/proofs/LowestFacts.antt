@@ -1,7 +1,7 @@
 -- What is found overwritten is the lowest address that is.
-use Rattle.std.proofs.Common.{◌≡◌, ◌<◌, ◌≤◌, ℕ, zero, suc, Bool, true, false, cond, eqb, min, List, [], ◌∷◌, refl, sym, ap, ◌∙◌, subst, arith, filter, take, ◌⊎◌, inl, inr, Option, Some, None}
+use Rattle.std.proofs.Common.{◌≡◌, ◌≤◌, ℕ, Bool, true, false, cond, eqb, min, List, [], ◌∷◌, refl, sym, ap, ◌∙◌, subst, arith, filter, ◌⊎◌, inl, inr, Option, Some, None}
 use Rattle.std.specs.List.{slice_get}
-use Rattle.std.proofs.lemmas.Bool.{false≢true, cond_both, eq-eqb, eqb-true, or_left, or_right, or_cases, cases_eq, false_from_ne_true}
+use Rattle.std.proofs.lemmas.Bool.{false≢true, eq-eqb, eqb-true, or_left, or_right, or_cases, cases_eq, false_from_ne_true}
 use Rattle.std.proofs.lemmas.Option.{same_Some}
 use Rattle.schedule_log.specs.declared.entry.Entry.{Entry}
 use Rattle.schedule_log.specs.declared.entry.Entry.TheVariants.{Step, Waits, Idle, Held, Open, Lock, Spec, Commit, Back, Flush, Kern}
@@ -10,8 +10,8 @@ use Rattle.offload_calls.specs.Stores.{is_listed}
 use Rattle.offload_calls.specs.CoreActs.{outside}
 use Rattle.flat_check.specs.Accepting.{IsOverwritten, OverwritesAreLowest}
 use Rattle.flat_check.specs.Clean.{state_at}
-use Rattle.flat_check.specs.Walks.{Watched, Walk, has_acts, lower, lowest, stored_of, ruling_by, ruled, Ruling, Fine, Unsound, Overwritten}
-use Rattle.flat_check.proofs.WalkFacts.{walk_at, flat_at, Knows, KnowsTry, knows, listed-filter}
+use Rattle.flat_check.specs.Walks.{Watched, has_acts, lower, lowest, stored_of, ruling_by, Fine, Unsound, Overwritten}
+use Rattle.flat_check.proofs.WalkFacts.{walk_at, flat_at, Knows, knows, listed-filter}
 use Rattle.flat_check.proofs.ConverseFacts.{OnlyKnows, only}
 
 -- ---- the lowest of a list

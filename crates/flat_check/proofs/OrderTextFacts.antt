@@ -1,9 +1,9 @@
 -- An order file in which nothing is found wrong, and the text of an order in which nothing is.
-use Rattle.std.proofs.Common.{◌≡◌, ◌<◌, ◌≤◌, ◌+◌, ◌-◌, ◌*◌, ℕ, zero, suc, Bool, true, false, ◌||◌, cond, eqb, ltb, List, [], ◌∷◌, ◌++◌, length, map, take, drop, fold, refl, sym, ap, ◌∙◌, subst, arith, append_assoc, length-append, Option, Some, None, Result, Ok, Err}
-use Rattle.std.specs.Prelude.{codes, slice_index, IfSome}
+use Rattle.std.proofs.Common.{◌≡◌, ◌≤◌, ◌+◌, ◌-◌, ◌*◌, ℕ, Bool, true, false, ◌||◌, cond, eqb, ltb, List, [], ◌∷◌, ◌++◌, length, map, take, drop, fold, refl, sym, ap, ◌∙◌, arith, append_assoc, length-append, Option, Some, None, Result, Ok, Err}
+use Rattle.std.specs.Prelude.{codes, slice_index}
 use Rattle.std.specs.List.{AllByRecursion, flat_map, list_any}
 use Rattle.std.specs.Fmt.{decimal}
-use Rattle.std.proofs.lemmas.Bool.{true≢false, false≢true, cond_both, eqb-true, le-ltb}
+use Rattle.std.proofs.lemmas.Bool.{eqb-true, le-ltb}
 use Rattle.std.proofs.lemmas.Bool.Decides.{nat_tests}
 use Rattle.std.proofs.lemmas.List.{append-nil, take_all}
 use Rattle.conda_base.specs.declared.actor.Actor.{Actor}
@@ -20,8 +20,8 @@ use Rattle.schedule_log.proofs.ScheduleLemmas.{ended_lines_at, ended_lines_none,
 use Rattle.offload_calls.specs.State.{Setup}
 use Rattle.flat_check.specs.Accepting.{AllFine}
 use Rattle.flat_check.specs.Orders.{is_there}
-use Rattle.flat_check.specs.OrderTexts.{IsWithin, IsOrderText, AcceptedTextsAreOrders, OrderTextsAreAccepted}
-use Rattle.flat_check.specs.Verdict.{placed, order_lines, OrderVerdict, Sound_to, Bad, TooMany, Dirty, TooLong, verdict_at, verdict_from, order_verdict}
+use Rattle.flat_check.specs.OrderTexts.{AcceptedTextsAreOrders, OrderTextsAreAccepted}
+use Rattle.flat_check.specs.Verdict.{placed, order_lines, Sound_to, Bad, TooMany, Dirty, TooLong, verdict_at, verdict_from, order_verdict}
 use Rattle.flat_check.specs.Walks.{Walk, Ruling, Fine, Unsound, Overwritten, ruled, walked, walk, walk_start}
 use Rattle.flat_check.proofs.ConverseFacts.{sound_is_fine}
 use Rattle.flat_check.proofs.FlatFacts.{Flat, flat-both, flat-decimal}

@@ -1,8 +1,8 @@
 -- The open tries of a machine after an entry.
-use Rattle.std.proofs.Common.{◌≡◌, ◌≢◌, ◌<◌, ◌≤◌, ◌+◌, ◌-◌, ◌/◌, ◌^◌, ◌++◌, ◌||◌, ◌&&◌, not, ℕ, zero, suc, Bool, true, false, cond, eqb, min, List, [], ◌∷◌, length, set, refl, sym, ap, ◌∙◌, subst, arith, ◌⊎◌, inl, inr, Option, Some, None}
-use Rattle.std.specs.Prelude.{slice_get, slice_index_or}
+use Rattle.std.proofs.Common.{◌≡◌, ◌≢◌, ◌<◌, ◌≤◌, ◌+◌, ◌-◌, ◌/◌, ◌^◌, ◌++◌, ◌||◌, ◌&&◌, ℕ, zero, suc, Bool, true, false, cond, eqb, min, List, [], ◌∷◌, length, set, refl, sym, ap, ◌∙◌, subst, arith, ◌⊎◌, inl, inr, Option, Some, None}
+use Rattle.std.specs.Prelude.{slice_get}
 use Rattle.std.specs.Option.{option_map}
-use Rattle.std.proofs.lemmas.Bool.{false≢true, cases_eq}
+use Rattle.std.proofs.lemmas.Bool.{cases_eq}
 use Rattle.std.proofs.lemmas.Bool.Decides.{nat_tests}
 use Rattle.std.proofs.lemmas.Option.{same_Some}
 use Rattle.std.proofs.lemmas.List.{length-set, get_or-set_same, get_or-set_other}
@@ -10,9 +10,9 @@ use Rattle.rv32_hart.specs.Code.{CodeView}
 use Rattle.offload_calls.specs.Stores.{is_listed}
 use Rattle.offload_calls.specs.State.{Setup, updated}
 use Rattle.flat_check.specs.Marks.{Marked, is_set}
-use Rattle.flat_check.specs.Portions.{AllFitImage, FitsImage, MarksStored, MarksToo, is_marked_at, marks_at, no_marked}
+use Rattle.flat_check.specs.Portions.{AllFitImage, FitsImage, MarksToo, is_marked_at, marks_at, no_marked}
 use Rattle.rv32_hart.specs.declared.act.Access.{Access}
-use Rattle.flat_check.specs.Tries.{TryParts, FitsTries, ShowsTries, MarksTry, counted_acts, opened, closed, counted, one_act, with_stored}
+use Rattle.flat_check.specs.Tries.{TryParts, FitsTries, ShowsTries, MarksTry, counted_acts, counted, one_act, with_stored}
 use Rattle.flat_check.specs.Walks.{Watched, has_acts}
 use Rattle.flat_check.proofs.WalkFacts.{listed-append}
 use Rattle.flat_check.proofs.ListFacts.{get-updated, updated-here, updated-there}

@@ -1,20 +1,20 @@
 -- What stands for a way through an order stands for it after the next entry.
-use Rattle.std.proofs.Common.{◌≡◌, ◌≢◌, ◌<◌, ◌≤◌, ◌++◌, ◌||◌, ℕ, suc, Bool, true, false, cond, eqb, List, [], length, set, refl, sym, ap, ◌∙◌, subst, arith, filter, ◌⊎◌, inl, inr, Option, Some, None}
+use Rattle.std.proofs.Common.{◌≡◌, ◌<◌, ◌≤◌, ◌++◌, ◌||◌, ℕ, suc, Bool, true, false, cond, eqb, List, [], length, set, refl, sym, ap, ◌∙◌, subst, arith, ◌⊎◌, inl, inr, Option, Some, None}
 use Rattle.std.specs.Option.{option_map}
 use Rattle.std.specs.Prelude.{slice_get}
 use Rattle.std.proofs.Math.Path.{fun_ext}
 use Rattle.std.proofs.lemmas.Bool.{false≢true, cases_eq, eq-eqb, ne_eqb}
 use Rattle.std.proofs.lemmas.List.{append-nil}
-use Rattle.schedule_log.specs.declared.entry.Entry.TheVariants.{Step, Waits, Open, Lock, Spec, Commit, Back, Kern}
+use Rattle.schedule_log.specs.declared.entry.Entry.TheVariants.{Step, Open, Spec, Commit, Back, Kern}
 use Rattle.rv32_hart.specs.Code.{CodeView}
 use Rattle.rv32_hart.specs.declared.act.Access.{Access}
-use Rattle.offload_calls.specs.State.{Setup, State, updated}
+use Rattle.offload_calls.specs.State.{Setup, State}
 use Rattle.offload_calls.specs.Stores.{is_listed, stored_addresses}
 use Rattle.offload_calls.specs.HartAct.{hart_stores}
-use Rattle.offload_calls.specs.CoreActs.{outside, written}
+use Rattle.offload_calls.specs.CoreActs.{written}
 use Rattle.flat_check.specs.Acts.{stored_by}
 use Rattle.flat_check.specs.Marks.{Marked}
-use Rattle.flat_check.specs.Flats.{FlatParts, ShowsFlat, HasStepped, HasMadeAct, HasMadePortion, MarksStoredBeside}
+use Rattle.flat_check.specs.Flats.{HasStepped, HasMadeAct, HasMadePortion, MarksStoredBeside}
 use Rattle.flat_check.specs.Portions.{MarksStored, MarksBeside, is_marked_at, marks_at}
 use Rattle.flat_check.specs.Tries.{TryParts, ShowsTries, MarksTry, counted_acts, opened, closed, counted, one_act, with_stored}
 use Rattle.flat_check.specs.Walkers.{WalkerParts, ShowsWalk}

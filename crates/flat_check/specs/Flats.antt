@@ -1,5 +1,5 @@
 -- A flat machine, and the flat state that it stands for.
-use Rattle.std.specs.Prelude.{ℕ, ◌≡◌, ◌≢◌, ◌<◌, ◌≤◌, ◌||◌, List, [], length, filter, slice_get, slice_set, slice_index_or, Option, Some, None}
+use Rattle.std.specs.Prelude.{ℕ, ◌≡◌, ◌≢◌, ◌<◌, ◌≤◌, ◌||◌, List, length, filter, slice_get, slice_set, slice_index_or, Option, Some, None}
 use Rattle.rv32_hart.specs.Code.{CodeView}
 use Rattle.rv32_hart.specs.Regs.{start_regs}
 use Rattle.rv32_hart.specs.declared.regs.Regs.{Regs}

@@ -1,5 +1,5 @@
 -- What stands for a checker's way through an order.
-use Rattle.std.specs.Prelude.{ℕ, ◌≡◌, List, length}
+use Rattle.std.specs.Prelude.{◌≡◌, length}
 use Rattle.rv32_hart.specs.Code.{CodeView}
 use Rattle.offload_calls.specs.State.{Setup}
 use Rattle.flat_check.specs.declared.refusal.Refusal.{Refusal}

@@ -9,6 +9,8 @@ mod lines;
 mod marks;
 mod portions;
 mod refusal;
+#[cfg(test)]
+mod tests;
 mod tries;
 mod walker;
 

@@ -1,9 +1,9 @@
-use Rattle.std.proofs.Common.{◌≡◌, ◌≢◌, ◌+◌, ◌∙◌, ℕ, suc, sym, ap, subst, length, set}
+use Rattle.std.proofs.Common.{◌+◌, ◌∙◌, suc, sym, ap, subst, set}
 use Rattle.std.proofs.lemmas.List.{length-set}
 use Rattle.flat_check.specs.Marks.{Marked}
 use Rattle.flat_check.specs.Portions.{FitsImage, HasActed, Unmarks, lowest_loaded, marks_at, no_marked}
 use Rattle.flat_check.proofs.MarkFacts.{any_default}
-use Rattle.flat_check.proofs.StepFacts.{Acted, acted_more, acted_none}
+use Rattle.flat_check.proofs.StepFacts.{acted_more, acted_none}
 use Rattle.flat_check.proofs.TryFacts.{all-fit-set, marks_at-set_same, marks_at-set_other}
 use Rattle.flat_check.proofs.portions.act_on.Goals as goal
 

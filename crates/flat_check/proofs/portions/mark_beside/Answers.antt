@@ -1,6 +1,6 @@
-use Rattle.std.proofs.Common.{◌≡◌, ◌<◌, ◌+◌, ◌∙◌, sym, ap, subst, length, List}
+use Rattle.std.proofs.Common.{◌<◌, ◌+◌, sym, subst, length, List}
 use Rattle.flat_check.specs.Marks.{Marked}
-use Rattle.flat_check.specs.Portions.{FitsImage, MarksToo, marks_at, no_marked}
+use Rattle.flat_check.specs.Portions.{FitsImage, MarksToo, no_marked}
 use Rattle.flat_check.proofs.MarkFacts.{any_default}
 use Rattle.flat_check.proofs.TryFacts.{MarkedTo, marked-next, marked-past}
 use Rattle.flat_check.proofs.portions.mark_beside.Goals as goal
@@ -14,14 +14,14 @@ mark_access-requires-clause-marks c =
 pub loop-k-preserved : goal.loop-k-preserved
 loop-k-preserved c =
     elim c.if-k-j.branch [
-      then-k-j w ↦
+      | then-k-j w ↦
           let inside : c.loop-k.k < length c.loop-k.marks = subst (λ n. c.loop-k.k < n) (sym c.loop-k.auto.marks) c.loop-k-test.true in
           subst (λ (ms : List Marked). MarkedTo c.args.marks.now ms c.args.code.now c.args.j (c.loop-k.k + 1) c.args.access) (sym w.marks-is)
           (marked-next c.args.marks.now c.loop-k.marks c.args.code.now c.args.j c.loop-k.k c.args.access w.mark_access.new.marks c.loop-k.invariant c.loop-k-test.true w.if-k-j.true
           (subst (λ (m : Marked). MarksToo m w.mark_access.new.marks c.args.code.now.base c.args.access)
           (any_default c.loop-k.marks c.loop-k.k w.index-marks-k.result no_marked inside) w.mark_access.ensures.marks)
           w.mark_access.ensures.kept)
-    | else-k-j w ↦
+      | else-k-j w ↦
           subst (λ (ms : List Marked). MarkedTo c.args.marks.now ms c.args.code.now c.args.j (c.loop-k.k + 1) c.args.access) (sym w.marks-is)
           (marked-past c.args.marks.now c.loop-k.marks c.args.code.now c.args.j c.loop-k.k c.args.access c.loop-k.invariant w.if-k-j.false)
     ]

@@ -1,4 +1,4 @@
-use Rattle.std.proofs.Common.{◌≡◌, ◌≤◌, ◌+◌, ◌∙◌, ℕ, suc, sym, subst, arith, add-one}
+use Rattle.std.proofs.Common.{◌∙◌, sym, subst, arith, add-one}
 use Rattle.flat_check.specs.Portions.{HasActed}
 use Rattle.flat_check.proofs.portions.run_portion.Goals as goal
 

@@ -1,5 +1,4 @@
-use Rattle.std.proofs.Common.{◌≡◌, ◌+◌, ◌++◌, ◌∷◌, [], refl, sym, ap, subst, ◌∙◌}
-use Rattle.rv32_hart.specs.Code.{CodeView}
+use Rattle.std.proofs.Common.{◌+◌, refl, sym, subst}
 use Rattle.chip_laws.specs.Design.{setup_of}
 use Rattle.flat_check.specs.Checkers.{CheckerView, HasWalked, checker_view}
 use Rattle.flat_check.specs.Walks.{walk}

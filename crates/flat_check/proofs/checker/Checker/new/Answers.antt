@@ -1,6 +1,5 @@
-use Rattle.std.proofs.Common.{◌≡◌, ◌∙◌, refl, sym, ap, subst, length, Some}
+use Rattle.std.proofs.Common.{◌∙◌, refl, ap, Some}
 use Rattle.rv32_hart.specs.Code.{CodeView}
-use Rattle.chip_config.specs.Settings.{settings}
 use Rattle.offload_calls.specs.State.{start_hart}
 use Rattle.chip_laws.specs.Design.{design_for, setup_of}
 use Rattle.flat_check.specs.Walkers.{walker_parts}

@@ -1,4 +1,4 @@
-use Rattle.std.proofs.Common.{◌≡◌, ◌+◌, ◌∙◌, sym, ap}
+use Rattle.std.proofs.Common.{◌+◌, ◌∙◌, sym, ap}
 use Rattle.std.proofs.lemmas.List.{with_items_is}
 use Rattle.offload_calls.specs.declared.status.Core.{Core}
 use Rattle.offload_calls.specs.CoreActs.{core_runs}

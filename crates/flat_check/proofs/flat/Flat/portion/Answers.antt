@@ -1,4 +1,4 @@
-use Rattle.std.proofs.Common.{◌≡◌, ◌∙◌, sym, ap}
+use Rattle.std.proofs.Common.{◌∙◌, ap}
 use Rattle.std.proofs.lemmas.List.{with_items_is}
 use Rattle.flat_check.specs.Flats.{flat_parts}
 use Rattle.flat_check.proofs.MachineFacts.{core-is, made_portion}

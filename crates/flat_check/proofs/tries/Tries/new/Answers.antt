@@ -1,4 +1,4 @@
-use Rattle.std.proofs.Common.{◌≡◌, ◌<◌, ◌+◌, ◌++◌, ◌∷◌, [], ◌∙◌, sym, ap, subst, length, List, ℕ}
+use Rattle.std.proofs.Common.{◌<◌, ◌+◌, ◌++◌, ◌∷◌, [], ◌∙◌, sym, ap, subst, length, List, ℕ}
 use Rattle.std.proofs.lemmas.List.{length_push}
 use Rattle.flat_check.proofs.TryFacts.{all-fit-as, all-fit-push}
 use Rattle.flat_check.proofs.tries.Tries.new.Goals as goal

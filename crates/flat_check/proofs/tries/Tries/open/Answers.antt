@@ -1,4 +1,4 @@
-use Rattle.std.proofs.Common.{◌≡◌, ◌∙◌, refl, sym, ap, subst, length, set, [], Some}
+use Rattle.std.proofs.Common.{◌∙◌, refl, sym, ap, subst, length, set, [], Some}
 use Rattle.std.proofs.lemmas.List.{length-set}
 use Rattle.flat_check.specs.Marks.{Marked}
 use Rattle.flat_check.specs.Portions.{marks_at, no_marked}

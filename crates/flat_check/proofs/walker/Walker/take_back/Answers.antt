@@ -1,4 +1,4 @@
-use Rattle.std.proofs.Common.{◌≡◌, ◌∙◌, ap, length}
+use Rattle.std.proofs.Common.{ap, length}
 use Rattle.flat_check.specs.Tries.{try_parts}
 use Rattle.flat_check.proofs.TryFacts.{all-fit-as, fits-closed}
 use Rattle.flat_check.proofs.WalkerFacts.{walks-back}
