@@ -86,8 +86,14 @@ const FRONT: [&[u8]; 19] = [
 fn a_portion_that_read_what_another_stored_is_refused(rt: HostRuntime) -> Result<(), Fail> {
     let mut checker = checker(rt.alloc())?;
     assert_eq!(rt; judge(&mut checker, &FRONT), Some(Ok(())));
-    assert_eq!(rt; judge(&mut checker, &[b"c 1 2 1"]), Some(Err(Refusal::Unsound)));
-    assert_eq!(rt; judge(&mut checker, &[b"c 1 3 1"]), Some(Err(Refusal::Overwritten(64))));
+    assert_eq!(rt;
+        judge(&mut checker, &[b"c 1 2 1"]),
+        Some(Err(Refusal::Unsound))
+    );
+    assert_eq!(rt;
+        judge(&mut checker, &[b"c 1 3 1"]),
+        Some(Err(Refusal::Overwritten(64)))
+    );
     Ok(())
 }
 
@@ -95,7 +101,10 @@ fn a_portion_that_read_what_another_stored_is_refused(rt: HostRuntime) -> Result
 fn an_act_of_another_kernel_counts_as_a_store(rt: HostRuntime) -> Result<(), Fail> {
     let mut checker = checker(rt.alloc())?;
     assert_eq!(rt; judge(&mut checker, &FRONT[..11]), Some(Ok(())));
-    assert_eq!(rt; judge(&mut checker, &[b"k 0", b"k 0", b"c 1 1 4"]), Some(Err(Refusal::Overwritten(64))));
+    assert_eq!(rt;
+        judge(&mut checker, &[b"k 0", b"k 0", b"c 1 1 4"]),
+        Some(Err(Refusal::Overwritten(64)))
+    );
     Ok(())
 }
 
