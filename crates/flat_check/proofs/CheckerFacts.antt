@@ -17,7 +17,7 @@ use Rattle.flat_check.specs.Walks.{walk, walk_start, walked}
 
 -- ---- the next entry
 
-walk-next : (s : Setup) (order : List Entry) (e : Entry) → walk s (order ++ e ∷ []) ≡ walked s (walk s order) e
+pub walk-next : (s : Setup) (order : List Entry) (e : Entry) → walk s (order ++ e ∷ []) ≡ walked s (walk s order) e
 walk-next s order e = fold-append (walked s) (walk_start s) order (e ∷ [])
 
 pub next-walked : (d : Design) (c new : CheckerView) (order : List Entry) (e : Entry) → HasWalked d c order → new.code ≡ c.code → new.line_bytes ≡ c.line_bytes

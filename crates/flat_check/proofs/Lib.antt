@@ -4,6 +4,7 @@ pub mod ConverseFacts
 pub mod FlatFacts
 pub mod HartFacts
 pub mod JournalFacts
+pub mod JudgingFacts
 pub mod ListFacts
 pub mod LowestFacts
 pub mod MachineFacts

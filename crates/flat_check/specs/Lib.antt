@@ -5,6 +5,7 @@ pub mod Clean
 pub mod FlatText
 pub mod Flats
 pub mod HartActs
+pub mod Judging
 pub mod Laws
 pub mod Marks
 pub mod OrderTexts

@@ -4,6 +4,7 @@
 mod acts;
 mod checker;
 mod flat;
+mod judging;
 mod laws;
 mod lines;
 mod marks;
@@ -20,4 +21,4 @@ pub use laws::{
     order_texts_are_accepted, overwrites_are_lowest, reports_have_flat_parts, runs_are_accepted,
     sound_orders_are_fine,
 };
-pub use refusal::Refusal;
+pub use refusal::{OrderFault, Refusal};

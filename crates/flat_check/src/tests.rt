@@ -1,5 +1,5 @@
 // Orders of the worked example of two cores, judged line by line.
-use crate::{Checker, Refusal};
+use crate::{Checker, OrderFault, Refusal};
 use chip_config::read;
 use elf_loader::load;
 use offload_calls::CoreStatus;
@@ -118,5 +118,37 @@ fn a_checker_shows_what_its_order_came_to(rt: HostRuntime) -> Result<(), Fail> {
         return Err("too few".into());
     }
     assert_eq!(rt; checker.core(0).1, CoreStatus::Done(64));
+    Ok(())
+}
+
+// How the next line is judged, where the order isn't long.
+fn next(checker: &mut Checker, line: &[u8]) -> Option<Result<(), OrderFault>> {
+    if checker.entries() > 1000 {
+        return None;
+    }
+    Some(checker.judge(read_entry(line)))
+}
+
+#[test]
+fn lines_are_bad_for_the_first_cause(rt: HostRuntime) -> Result<(), Fail> {
+    let mut checker = checker(rt.alloc())?;
+    let bad = |why| Some(Err(OrderFault::Bad { line: 1, why }));
+    assert_eq!(rt; next(&mut checker, b"s 9"), bad(1));
+    assert_eq!(rt; next(&mut checker, b"c 3 1 1"), bad(2));
+    assert_eq!(rt; next(&mut checker, b"c 0 1 1"), bad(3));
+    Ok(())
+}
+
+#[test]
+fn a_commit_that_is_not_clean_is_told_by_its_place(rt: HostRuntime) -> Result<(), Fail> {
+    let mut checker = checker(rt.alloc())?;
+    assert_eq!(rt; judge(&mut checker, &FRONT), Some(Ok(())));
+    assert_eq!(rt;
+        next(&mut checker, b"c 1 3 1"),
+        Some(Err(OrderFault::Overwritten {
+            entry: 19,
+            address: 64
+        }))
+    );
     Ok(())
 }
