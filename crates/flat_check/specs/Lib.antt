@@ -1,0 +1,17 @@
+pub mod Accepting
+pub mod Acts
+pub mod Checkers
+pub mod Clean
+pub mod FlatText
+pub mod Flats
+pub mod HartActs
+pub mod Judging
+pub mod Laws
+pub mod Marks
+pub mod OrderTexts
+pub mod Orders
+pub mod Portions
+pub mod Tries
+pub mod Verdict
+pub mod Walkers
+pub mod Walks
