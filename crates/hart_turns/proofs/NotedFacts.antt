@@ -25,25 +25,25 @@ use Rattle.try_runs.specs.Fills.{corefill_notes}
 use Rattle.offload_calls.specs.LineUses.{LineUse, use_of_access}
 use Rattle.hart_turns.specs.Steps.{FitsCode, AreNotedIn, KeepsNoted, used_notes}
 
-range-new : (b new : BackingView) (l : Line) → HasSameNumbers b new → IsInRange b l → IsInRange new l
+pub range-new : (b new : BackingView) (l : Line) → HasSameNumbers b new → IsInRange b l → IsInRange new l
 range-new b new l n r = rw (n.base, n.line_bytes, n.size) r
 
 -- ---- the notes of lines of which something is known
 
 module _ (P : Line → Type 0) where
-  abbrev Are : List Note → Type 0
+  abbrev pub Are : List Note → Type 0
   Are notes = All (λ (note : Note). P note.line) notes
 
-  no-notes : Are []
+  pub no-notes : Are []
   no-notes = All-nil (λ (note : Note). P note.line)
 
-  one : (k : Kind) (h : ℕ) (l : Line) (notes : List Note) → P l → Are notes → Are (note_of k h l ∷ notes)
+  pub one : (k : Kind) (h : ℕ) (l : Line) (notes : List Note) → P l → Are notes → Are (note_of k h l ∷ notes)
   one k h l notes p all = All-cons (λ (note : Note). P note.line) (note_of k h l) notes p all
 
-  two : (k j : Kind) (h : ℕ) (l : Line) → P l → Are (note_of k h l ∷ note_of j h l ∷ [])
+  pub two : (k j : Kind) (h : ℕ) (l : Line) → P l → Are (note_of k h l ∷ note_of j h l ∷ [])
   two k j h l p = one k h l (note_of j h l ∷ []) p (one j h l [] p no-notes)
 
-  both : (xs ys : List Note) → Are xs → Are ys → Are (xs ++ ys)
+  pub both : (xs ys : List Note) → Are xs → Are ys → Are (xs ++ ys)
   both xs ys f g = All-append (λ (note : Note). P note.line) xs ys f g
 
   pub all-noted : (trace : Trace) (notes : List Note) → Are trace.notes → Are notes → Are (all_noted trace notes).notes
@@ -61,7 +61,7 @@ module _ (P : Line → Type 0) where
   back-on l h (Some E) p = no-notes
   back-on l h (Some S) p = no-notes
 
-  leave-on : (l : Line) (h : ℕ) (s : Option Mesi) → P l → Are (leave_notes l h s)
+  pub leave-on : (l : Line) (h : ℕ) (s : Option Mesi) → P l → Are (leave_notes l h s)
   leave-on l h None p = no-notes
   leave-on l h (Some M) p = two Back Drop h l p
   leave-on l h (Some E) p = one Drop h l [] p no-notes
@@ -78,7 +78,7 @@ module _ (P : Line → Type 0) where
   evict-on h l E p = one Evict h l [] p no-notes
   evict-on h l S p = one Evict h l [] p no-notes
 
-  each-on : (n : ℕ) (notes : ℕ → List Note) → ((k : ℕ) → Are (notes k)) → Are (each_below n notes)
+  pub each-on : (n : ℕ) (notes : ℕ → List Note) → ((k : ℕ) → Are (notes k)) → Are (each_below n notes)
   each-on zero notes all = no-notes
   each-on (suc n) notes all = both (each_below n notes) (notes n) (each-on n notes all) (all n)
 
@@ -122,16 +122,16 @@ module _ (P : Line → Type 0) where
   access-on c tags h l true p held = store-on c tags h l (held_state c tags h l) p held
   access-on c tags h l false p held = load-on c tags h l (held_state c tags h l) p held
 
-  flush-on : (c : Shape) (tags : Tags) (l : Line) → P l → Are (flush_notes c tags l)
+  pub flush-on : (c : Shape) (tags : Tags) (l : Line) → P l → Are (flush_notes c tags l)
   flush-on c tags l p = each-on c.holders _ (λ k. back-on l k (held_state c tags k l) p)
 
-  flushes-on : (c : Shape) (tags : Tags) (lines : List Line) → All P lines → Are (flushes_notes c tags lines)
+  pub flushes-on : (c : Shape) (tags : Tags) (lines : List Line) → All P lines → Are (flushes_notes c tags lines)
   flushes-on c tags [] all = no-notes
   flushes-on c tags (l ∷ lines) all =
       both (flush_notes c tags l) (flushes_notes c tags lines) (flush-on c tags l (All-head P l lines all))
       (flushes-on c tags lines (All-tail P l lines all))
 
-  commit-on : (c : Shape) (tags : Tags) (core : ℕ) (lines : List Line) → All P lines
+  pub commit-on : (c : Shape) (tags : Tags) (core : ℕ) (lines : List Line) → All P lines
       → Are (commit_notes c tags core lines)
   commit-on c tags core [] all = no-notes
   commit-on c tags core (l ∷ lines) all =
@@ -140,11 +140,11 @@ module _ (P : Line → Type 0) where
       (one Merge core l (commit_notes c tags core lines) (All-head P l lines all)
       (commit-on c tags core lines (All-tail P l lines all)))
 
-  corefill-on : (core : ℕ) (x : Option Line) → ((l : Line) → x ≡ Some l → P l) → Are (corefill_notes core x)
+  pub corefill-on : (core : ℕ) (x : Option Line) → ((l : Line) → x ≡ Some l → P l) → Are (corefill_notes core x)
   corefill-on core None p = no-notes
   corefill-on core (Some l) p = one CoreFill core l [] (p l refl) no-notes
 
-  all-named : (lines : List Line) → ((l : Line) → names lines l ≡ true → P l) → All P lines
+  pub all-named : (lines : List Line) → ((l : Line) → names lines l ≡ true → P l) → All P lines
   all-named [] each = All-nil P
   all-named (l ∷ lines) each =
       All-cons P l lines (each l (or_left (same_line l l) (names lines l) (eq-eqb l.0 l.0 refl)))
@@ -152,7 +152,7 @@ module _ (P : Line → Type 0) where
 
 -- ---- the notes of an event
 
-noted-with : (b new : BackingView) (log later : Trace) (notes : List Note) → HasSameNumbers b new
+pub noted-with : (b new : BackingView) (log later : Trace) (notes : List Note) → HasSameNumbers b new
     → later ≡ all_noted log notes
     → All (λ (note : Note). IsInRange b note.line) notes → KeepsNoted b log new later
 noted-with b new log later notes n is all old =
@@ -165,7 +165,7 @@ use-notes-on : (b : BackingView) (h : ℕ) (used : Option LineUse) → IsBacking
 use-notes-on b h None is range = no-notes (IsInRange b)
 use-notes-on b h (Some u) is range = access-on (IsInRange b) (shape_of b) b.tags h u.line u.stores range is.in_range
 
-accessed : (code : CodeView) (b : BackingView) (addr size : ℕ) → FitsCode code b → IsAccess code addr size
+pub accessed : (code : CodeView) (b : BackingView) (addr size : ℕ) → FitsCode code b → IsAccess code addr size
     → IsInRange b (line_at b.line_bytes addr)
 accessed code b addr size fits access =
     line_in_memory b.base (length b.view) b.line_bytes addr fits.coherent.backing.memory.size
