@@ -31,10 +31,10 @@ pub record PutsMore (f g : State) : Type 0 where
   pub bytes : List ℕ
   pub more : g.output ≡ f.output ++ bytes
 
-puts_nothing : (f : State) → PutsMore f f
+pub puts_nothing : (f : State) → PutsMore f f
 puts_nothing f = record { bytes = []; more = sym (append-nil f.output) }
 
-puts_both : (f g h : State) → PutsMore f g → PutsMore g h → PutsMore f h
+pub puts_both : (f g h : State) → PutsMore f g → PutsMore g h → PutsMore f h
 puts_both f g h one rest = record {
   bytes = one.bytes ++ rest.bytes;
   more = rest.more ∙ ap (λ o. o ++ rest.bytes) one.more ∙ append_assoc f.output one.bytes rest.bytes;
@@ -60,7 +60,7 @@ acts_put s f j zero = puts_nothing f
 acts_put s f j (suc n) =
     puts_both f (core_acts s f j n) _ (acts_put s f j n) (act_puts s (core_acts s f j n) j)
 
-entry_puts : (s : Setup) (f : State) (e : Entry) → PutsMore f (executed s f e)
+pub entry_puts : (s : Setup) (f : State) (e : Entry) → PutsMore f (executed s f e)
 entry_puts s f (Entry_is.Step h) = hart_puts s f h
 entry_puts s f (Entry_is.Commit j n cause) = acts_put s f j n
 entry_puts s f (Entry_is.Kern j) = acts_put s f j 1

@@ -1,0 +1,4 @@
+pub mod EventFacts
+pub mod PlainFacts
+pub mod ReportFacts
+pub mod StandsFacts

@@ -1,0 +1,5 @@
+pub mod Events
+pub mod Views
+pub mod Shows
+pub mod Turns
+pub mod MachineLaws
