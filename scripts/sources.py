@@ -1,5 +1,5 @@
-"""What the repository's own scripts read of it: its crates, in the order of docs/ARCHITECTURE.md, the
-definitions of specs/, and the numbers in scripts/house_limits."""
+"""What scripts read of the repository: its crates, in the order of docs/ARCHITECTURE.md, the definitions of specs/, and
+the numbers in scripts/house_limits."""
 import os
 import re
 import sys
@@ -8,9 +8,9 @@ from collections import namedtuple
 TOP = os.path.normpath(os.path.join(os.path.dirname(os.path.abspath(__file__)), ".."))
 LIMITS = "scripts/house_limits"
 
-# A group of crates has a title, and each crate a sentence and those just below it.
+# A group of crates has a title, and each crate a sentence.
 Group = namedtuple("Group", "title crates")
-Crate = namedtuple("Crate", "name has below")
+Crate = namedtuple("Crate", "name has")
 # A page of specs/ is a comment, and then sections, each with a title ("" for the first) and its definitions.
 Page = namedtuple("Page", "crate name path comment sections")
 Section = namedtuple("Section", "title definitions")
@@ -57,8 +57,8 @@ def groups():
     part = read("docs/ARCHITECTURE.md").partition("\n## Crates\n")[2].partition("\n## ")[0]
     for line in part.splitlines() + [""]:
         cells = [it.strip() for it in line.strip().strip("|").split("|")]
-        if line.startswith("| `") and len(cells) == 3:
-            rows.append(Crate(cells[0].strip("`"), cells[1], cells[2]))
+        if line.startswith("| `") and len(cells) >= 2:
+            rows.append(Crate(cells[0].strip("`"), cells[1]))
         elif not line.startswith("|") and rows:
             found.append(Group(title, rows))
             rows = []
