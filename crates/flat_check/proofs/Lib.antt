@@ -1,7 +1,6 @@
 pub mod ActFacts
 pub mod CheckerFacts
 pub mod ConverseFacts
-pub mod FlatFacts
 pub mod HartFacts
 pub mod JournalFacts
 pub mod JudgingFacts

@@ -24,7 +24,7 @@ use Rattle.flat_check.specs.OrderTexts.{AcceptedTextsAreOrders, OrderTextsAreAcc
 use Rattle.flat_check.specs.Verdict.{placed, order_lines, Sound_to, Bad, TooMany, Dirty, TooLong, verdict_at, verdict_from, order_verdict}
 use Rattle.flat_check.specs.Walks.{Walk, Ruling, Fine, Unsound, Overwritten, ruled, walked, walk, walk_start}
 use Rattle.flat_check.proofs.ConverseFacts.{sound_is_fine}
-use Rattle.flat_check.proofs.FlatFacts.{Flat, flat-both, flat-decimal}
+use Rattle.run_report.proofs.FlatFacts.{Flat, flat-both, flat-decimal}
 use Rattle.flat_check.proofs.WalkFacts.{fine_is_sound}
 
 -- ---- lines in which nothing is found wrong

@@ -7,7 +7,8 @@ use Rattle.run_report.specs.View.{View}
 use Rattle.run_report.specs.Texts.{texts_below, hart_text, core_text, harts_text, cores_text, changes_text, changed_text}
 use Rattle.chip_laws.specs.Design.{Design, setup_of}
 use Rattle.flat_check.specs.Checkers.{CheckerView, HasWalked, CheckersShowFlatTexts, view_of_checker, no_hart}
-use Rattle.flat_check.specs.FlatText.{flat_text_of, flat_view}
+use Rattle.run_report.specs.FlatText.{flat_text_of}
+use Rattle.flat_check.specs.FlatText.{flat_view}
 use Rattle.flat_check.specs.Walks.{walk, walk_start}
 use Rattle.flat_check.proofs.ListFacts.{read_is}
 use Rattle.flat_check.proofs.MachineFacts.{core-is}

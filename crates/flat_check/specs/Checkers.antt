@@ -10,7 +10,8 @@ use Rattle.offload_calls.specs.declared.status.HartStatus.TheVariants as Hart_is
 use Rattle.run_report.specs.View.{View}
 use Rattle.chip_laws.specs.Design.{Design, setup_of}
 use Rattle.flat_check.specs.declared.walker.Walker.{Walker}
-use Rattle.flat_check.specs.FlatText.{flat_text, flat_text_of}
+use Rattle.run_report.specs.FlatText.{flat_text_of}
+use Rattle.flat_check.specs.FlatText.{flat_text}
 use Rattle.flat_check.specs.Flats.{core_with}
 use Rattle.flat_check.specs.Orders.{is_there}
 use Rattle.flat_check.specs.Walkers.{WalkerParts, FitsWalker, ShowsWalk, walker_parts}

@@ -18,7 +18,6 @@ mod walker;
 pub use checker::Checker;
 pub use laws::{
     accepted_texts_are_orders, checkers_show_flat_texts, fine_orders_are_sound,
-    order_texts_are_accepted, overwrites_are_lowest, reports_have_flat_parts, runs_are_accepted,
-    sound_orders_are_fine,
+    order_texts_are_accepted, overwrites_are_lowest, runs_are_accepted, sound_orders_are_fine,
 };
 pub use refusal::{OrderFault, Refusal};

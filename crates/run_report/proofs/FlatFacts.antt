@@ -27,10 +27,10 @@ use Rattle.run_report.specs.FlatText.{is_left_out, kept_line, kept_rest, flat_pa
 
 -- ---- texts without a line feed
 
-abbrev Flat : List ℕ → Type 0
+abbrev pub Flat : List ℕ → Type 0
 Flat text = list_any is_feed text ≡ false
 
-flat-both : (a b : List ℕ) → Flat a → Flat b → Flat (a ++ b)
+pub flat-both : (a b : List ℕ) → Flat a → Flat b → Flat (a ++ b)
 flat-both a b p q = list_any-append is_feed a b ∙ or_from (list_any is_feed a) (list_any is_feed b) p q
 
 glyph : (d : ℕ) → is_feed (digit_glyph false (d % 10)) ≡ false
@@ -43,7 +43,7 @@ onto (suc k) n acc h =
     cond_both (eqb (n / 10) 0) (digit_glyph false (n % 10) ∷ acc) (digits_onto k 10 false (n / 10) (digit_glyph false (n % 10) ∷ acc)) Flat
     (λ _. more) (λ _. onto k (n / 10) (digit_glyph false (n % 10) ∷ acc) more)
 
-flat-decimal : (n : ℕ) → Flat (decimal n)
+pub flat-decimal : (n : ℕ) → Flat (decimal n)
 unfolding digits
 flat-decimal n = onto 64 n [] refl
 
