@@ -158,26 +158,26 @@ sound_where table options a b sound h =
     subst HasAllowedValues taken.1 (sound taken.0)
 
 -- What is left of the choice by name, from each name on.
-from_dis : List ℕ → List Given → Option Asked
+abbrev from_dis : List ℕ → List Given → Option Asked
 from_dis name options = if bytes_eq name (codes "dis") then where_allowed program_options options (Dis (program_files_in options)) else None
 
-from_asm : List ℕ → List Given → Option Asked
+abbrev from_asm : List ℕ → List Given → Option Asked
 from_asm name options =
     if bytes_eq name (codes "asm") then where_allowed program_options options (Asm (program_files_in options)) else from_dis name options
 
-from_self : List ℕ → List Given → Option Asked
+abbrev from_self : List ℕ → List Given → Option Asked
 from_self name options =
     if bytes_eq name (codes "self") then where_allowed self_options options (self_run_in options) else from_asm name options
 
-from_compare : List ℕ → List Given → Option Asked
+abbrev from_compare : List ℕ → List Given → Option Asked
 from_compare name options =
     if bytes_eq name (codes "compare") then where_allowed compare_options options (Compare (compare_files_in options)) else from_self name options
 
-from_coarse : List ℕ → List Given → Option Asked
+abbrev from_coarse : List ℕ → List Given → Option Asked
 from_coarse name options =
     if bytes_eq name (codes "coarse") then where_allowed run_options options (Run mode.Coarse (files_in options)) else from_compare name options
 
-from_fine : List ℕ → List Given → Option Asked
+abbrev from_fine : List ℕ → List Given → Option Asked
 from_fine name options =
     if bytes_eq name (codes "fine") then where_allowed run_options options (Run mode.Fine (files_in options)) else from_coarse name options
 
