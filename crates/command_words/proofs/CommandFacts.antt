@@ -7,8 +7,9 @@ use Rattle.std.proofs.lemmas.Option.{cond_some}
 use Rattle.schedule_log.specs.Verdict.{most_events}
 use Rattle.command_words.specs.declared.table.Kind.TheVariants as kind
 use Rattle.command_words.specs.declared.command.Command.{Command}
+use Rattle.command_words.specs.declared.command.Mode.TheVariants as mode
 use Rattle.command_words.specs.Options.{Given, Known, are_different, are_options, file_values, fits, has_place, is_option, one_number, options_of, given_pair, suits, values_of}
-use Rattle.command_words.specs.Words.{AreApart, Asked, Run, SelfRun, Asm, Dis, HasAllowedValues, asked, asked_with, command_named, files_in, free_file, needed_file, needed_number, amount_in, name_in, program_files_in, program_options, run_options, self_options, self_run_in, where_allowed}
+use Rattle.command_words.specs.Words.{AreApart, Asked, Run, Compare, SelfRun, Asm, Dis, HasAllowedValues, asked, asked_with, command_named, files_in, free_file, needed_file, needed_number, amount_in, name_in, compare_files_in, compare_options, program_files_in, program_options, run_options, self_options, self_run_in, where_allowed}
 use Rattle.command_words.proofs.ValueFacts.{in_range, apart_free, apart_needed, both, no_number, of_kind, one_number_is}
 
 -- ---- what a table allows
@@ -156,25 +157,49 @@ sound_where table options a b sound h =
     let taken = cond_some (are_options table options) a b h in
     subst HasAllowedValues taken.1 (sound taken.0)
 
+-- What is left of the choice by name, from each name on.
+abbrev from_dis : List ℕ → List Given → Option Asked
+from_dis name options = if bytes_eq name (codes "dis") then where_allowed program_options options (Dis (program_files_in options)) else None
+
+abbrev from_asm : List ℕ → List Given → Option Asked
+from_asm name options =
+    if bytes_eq name (codes "asm") then where_allowed program_options options (Asm (program_files_in options)) else from_dis name options
+
+abbrev from_self : List ℕ → List Given → Option Asked
+from_self name options =
+    if bytes_eq name (codes "self") then where_allowed self_options options (self_run_in options) else from_asm name options
+
+abbrev from_compare : List ℕ → List Given → Option Asked
+from_compare name options =
+    if bytes_eq name (codes "compare") then where_allowed compare_options options (Compare (compare_files_in options)) else from_self name options
+
+abbrev from_coarse : List ℕ → List Given → Option Asked
+from_coarse name options =
+    if bytes_eq name (codes "coarse") then where_allowed run_options options (Run mode.Coarse (files_in options)) else from_compare name options
+
+abbrev from_fine : List ℕ → List Given → Option Asked
+from_fine name options =
+    if bytes_eq name (codes "fine") then where_allowed run_options options (Run mode.Fine (files_in options)) else from_coarse name options
+
+-- what a choice gives is allowed, where both ways give what is
+either : (t : Bool) (table : List Known) (options : List Given) (a b : Asked) (rest : Option Asked)
+    → (are_options table options ≡ true → HasAllowedValues a) → (rest ≡ Some b → HasAllowedValues b)
+    → (if t then where_allowed table options a else rest) ≡ Some b → HasAllowedValues b
+either true table options a b rest one other h = sound_where table options a b one h
+either false table options a b rest one other h = other h
+
 sound_by : (name : List ℕ) (options : List Given) (a : Asked) → asked_with name options ≡ Some a → HasAllowedValues a
-sound_by name options a h = run (bytes_eq name (codes "run")) refl
+sound_by name options a =
+    either (bytes_eq name (codes "run")) run_options options (Run mode.Conda (files_in options)) a (from_fine name options) (apart_of_run options)
+    (either (bytes_eq name (codes "fine")) run_options options (Run mode.Fine (files_in options)) a (from_coarse name options) (apart_of_run options)
+    (either (bytes_eq name (codes "coarse")) run_options options (Run mode.Coarse (files_in options)) a (from_compare name options) (apart_of_run options)
+    (either (bytes_eq name (codes "compare")) compare_options options (Compare (compare_files_in options)) a (from_self name options) (λ h. tt)
+    (either (bytes_eq name (codes "self")) self_options options (self_run_in options) a (from_asm name options) (events_of_self options)
+    (either (bytes_eq name (codes "asm")) program_options options (Asm (program_files_in options)) a (from_dis name options) (apart_of_program options)
+    (either (bytes_eq name (codes "dis")) program_options options (Dis (program_files_in options)) a None (apart_of_program options) (λ h. absurd_none a h)))))))
   where
-    dis : (t : Bool) → bytes_eq name (codes "dis") ≡ t
-        → (if t then where_allowed program_options options (Dis (program_files_in options)) else None) ≡ Some a → HasAllowedValues a
-    dis true e h = sound_where program_options options (Dis (program_files_in options)) a (apart_of_program options) h
-    dis false e h = cc
-
-    asm : (t : Bool) → bytes_eq name (codes "asm") ≡ t → bytes_eq name (codes "run") ≡ false → bytes_eq name (codes "self") ≡ false → HasAllowedValues a
-    asm true e no_run no_self = sound_where program_options options (Asm (program_files_in options)) a (apart_of_program options) (rw e at (rw no_self at (rw no_run at h)))
-    asm false e no_run no_self = dis (bytes_eq name (codes "dis")) refl (rw e at (rw no_self at (rw no_run at h)))
-
-    self : (t : Bool) → bytes_eq name (codes "self") ≡ t → bytes_eq name (codes "run") ≡ false → HasAllowedValues a
-    self true e no_run = sound_where self_options options (self_run_in options) a (events_of_self options) (rw e at (rw no_run at h))
-    self false e no_run = asm (bytes_eq name (codes "asm")) refl no_run e
-
-    run : (t : Bool) → bytes_eq name (codes "run") ≡ t → HasAllowedValues a
-    run true e = sound_where run_options options (Run (files_in options)) a (apart_of_run options) (rw e at h)
-    run false e = self (bytes_eq name (codes "self")) refl e
+    absurd_none : (a : Asked) → None ≡ Some a → HasAllowedValues a
+    absurd_none a h = cc
 
 pub sound : (words : List (List ℕ)) (a : Asked) → asked words ≡ Some a → HasAllowedValues a
 sound [] a h = cc

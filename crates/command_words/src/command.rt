@@ -2,7 +2,7 @@
 ghost use Rattle.std.specs.Prelude.{◌≡◌, ◌≤◌, ◌&&◌, Some, None, MatchOption, IfSome, map, option_map, string_bytes, true, false};
 ghost use Rattle.std.specs.List.{list_all};
 ghost use Rattle.command_words.specs.Options.{are_different, are_options, file_values, has_place, is_option, known, one_number, options_of, values_of};
-ghost use Rattle.command_words.specs.Words.{AreApart, HasAllowedValues, run_files, run_of, Asm, Dis, Run, asked, asked_with, command_named, files_in, named, program_files_in, program_named, program_options, run_options, self_options, self_run_in, where_allowed};
+ghost use Rattle.command_words.specs.Words.{AreApart, HasAllowedValues, run_files, run_of, Asm, Compare, Dis, Run, asked, compare_files_in, compare_named, compare_options, asked_with, command_named, files_in, named, program_files_in, program_named, program_options, run_options, self_options, self_run_in, where_allowed};
 
 use crate::number::number_in;
 use crate::options::{needed_value, value_of};
@@ -27,10 +27,29 @@ pub struct ProgramFiles<'a> {
     pub program: &'a str,
 }
 
+/// The files of a comparison of the three machines.
+#[derive(Clone, Copy)]
+pub struct CompareFiles<'a> {
+    pub config: &'a str,
+    pub image: &'a str,
+    pub schedule: &'a str,
+    pub report: &'a str,
+}
+
+/// How near-data cores run kernels: in portions, as one more user of the harts' coherent memory, or
+/// one at a time with all others held.
+#[derive(Clone, Copy)]
+pub enum Mode {
+    Conda,
+    Fine,
+    Coarse,
+}
+
 /// A command, with what its options say.
 #[derive(Clone, Copy)]
 pub enum Command<'a> {
-    Run(RunFiles<'a>),
+    Run(Mode, RunFiles<'a>),
+    Compare(CompareFiles<'a>),
     SelfRun {
         seed: u64,
         events: u32,
@@ -69,6 +88,29 @@ const RUN_OPTIONS: [KnownOption; 6] = [
     KnownOption {
         name: "--output",
         is_needed: false,
+        kind: Kind::File,
+    },
+];
+
+const COMPARE_OPTIONS: [KnownOption; 4] = [
+    KnownOption {
+        name: "--config",
+        is_needed: true,
+        kind: Kind::File,
+    },
+    KnownOption {
+        name: "--image",
+        is_needed: true,
+        kind: Kind::File,
+    },
+    KnownOption {
+        name: "--schedule",
+        is_needed: true,
+        kind: Kind::File,
+    },
+    KnownOption {
+        name: "--report",
+        is_needed: true,
         kind: Kind::File,
     },
 ];
@@ -116,6 +158,12 @@ fn options_of_run() -> &'static [KnownOption]
     &RUN_OPTIONS
 }
 
+fn options_of_compare() -> &'static [KnownOption]
+    ensures { map known result.now ≡ compare_options }
+{
+    &COMPARE_OPTIONS
+}
+
 fn options_of_self() -> &'static [KnownOption]
     ensures { map known result.now ≡ self_options }
 {
@@ -155,6 +203,21 @@ fn run_files_in(words: &[String]) -> Option<RunFiles<'_>>
     })
 }
 
+// The files of a comparison, where each option stands as it must.
+fn compare_files_in(words: &[String]) -> Option<CompareFiles<'_>>
+    ensures { let options = options_of (map string_bytes words.now) in
+        let stand = list_all (has_place options) compare_options in
+        MatchOption result (stand ≡ false)
+        (λ n. (stand ≡ true) × (compare_files_in options ≡ compare_named n)) }
+{
+    Some(CompareFiles {
+        config: needed_value(words, "--config")?,
+        image: needed_value(words, "--image")?,
+        schedule: needed_value(words, "--schedule")?,
+        report: needed_value(words, "--report")?,
+    })
+}
+
 // The files of a program, where each option stands as it must.
 fn program_files_in(words: &[String]) -> Option<ProgramFiles<'_>>
     ensures { let options = options_of (map string_bytes words.now) in
@@ -178,16 +241,30 @@ fn needed_number(words: &[String], name: &str, from: u64, to: u64) -> Option<u64
     number_in(from, to, value)
 }
 
-fn run_command(words: &[String]) -> Option<Command<'_>>
+fn run_command(mode: Mode, words: &[String]) -> Option<Command<'_>>
     ensures { let options = options_of (map string_bytes words.now) in
-        let asked = where_allowed run_options options (Run (files_in options)) in
+        let asked = where_allowed run_options options (Run mode (files_in options)) in
         MatchOption result (asked ≡ None) (λ c. asked ≡ Some (command_named c)) }
 {
     if !are_allowed(options_of_run(), words) {
         return None;
     }
     match run_files_in(words) {
-        Some(files) => Some(Command::Run(files)),
+        Some(files) => Some(Command::Run(mode, files)),
+        None => None,
+    }
+}
+
+fn compare_command(words: &[String]) -> Option<Command<'_>>
+    ensures { let options = options_of (map string_bytes words.now) in
+        let asked = where_allowed compare_options options (Compare (compare_files_in options)) in
+        MatchOption result (asked ≡ None) (λ c. asked ≡ Some (command_named c)) }
+{
+    if !are_allowed(options_of_compare(), words) {
+        return None;
+    }
+    match compare_files_in(words) {
+        Some(files) => Some(Command::Compare(files)),
         None => None,
     }
 }
@@ -252,7 +329,13 @@ fn command_by<'a>(name: &str, words: &'a [String]) -> Option<Command<'a>>
         MatchOption result (asked ≡ None) (λ c. asked ≡ Some (command_named c)) }
 {
     if name == "run" {
-        run_command(words)
+        run_command(Mode::Conda, words)
+    } else if name == "fine" {
+        run_command(Mode::Fine, words)
+    } else if name == "coarse" {
+        run_command(Mode::Coarse, words)
+    } else if name == "compare" {
+        compare_command(words)
     } else if name == "self" {
         self_command(words)
     } else if name == "asm" {
@@ -280,12 +363,12 @@ fn run_in(command: Command<'_>) -> Option<RunFiles<'_>>
     ensures { option_map named result ≡ run_of (Some (command_named command.entry)) }
 {
     match command {
-        Command::Run(files) => Some(files),
+        Command::Run(Mode::Conda, files) => Some(files),
         _ => None,
     }
 }
 
-/// The files of a run, or `None` where the words are those of no run.
+/// The files of a run by portions, or `None` where the words are those of no such run.
 pub fn run_files(words: &[String]) -> Option<RunFiles<'_>>
     ensures files { option_map named result ≡ run_files (map string_bytes words.now) }
     ensures apart { IfSome result (λ n. AreApart (named n)) }

@@ -3,9 +3,7 @@ use Rattle.std.specs.Prelude.{◌≡◌, ◌⊎◌, ℕ, List, IsTrue}
 use Rattle.conda_base.specs.declared.actor.Actor.{Actor}
 use Rattle.conda_host.specs.declared.outside.Role.TheVariants as role
 use Rattle.conda_host.specs.State.{HostState}
-use Rattle.chip_core.specs.Reports.{report_of_events}
 use Rattle.chip_laws.specs.Design.{Design}
-use Rattle.chip_laws.specs.Worlds.{journal, output_of}
 use Rattle.schedule_log.specs.Verdict.{most_bytes, most_events}
 use Rattle.machine_run.specs.declared.machine.Machine.{Ghosts}
 use Rattle.command_answers.specs.declared.status.Status.{Status}
@@ -15,14 +13,6 @@ use Rattle.command_answers.specs.Verdict.{Account, all_events, events_that_run}
 -- what a machine says of events
 abbrev pub account_of : {A : Type 0} → Ghosts A → (Design → List Actor → List ℕ) → Account
 account_of m report = record { journal = m.journal; output = m.output; report = report }
-
--- the account of the chip
-abbrev pub chip_account : Account
-chip_account = record {
-  journal = journal;
-  output = output_of;
-  report = report_of_events;
-}
 
 -- an answer that the run of a schedule gives
 abbrev pub IsRunEnd : Status → Type 0

@@ -3,14 +3,12 @@ use Rattle.std.specs.Prelude.{◌≡◌, List, IsTrue}
 use Rattle.conda_base.specs.declared.actor.Actor.{Actor}
 use Rattle.conda_host.specs.State.{HostState}
 use Rattle.chip_laws.specs.Design.{Design}
-use Rattle.chip_laws.specs.Lawful.{AreLawful}
 use Rattle.command_run.specs.Driving.{bytes_of_file}
 use Rattle.command_words.specs.Words.{Files}
 use Rattle.command_answers.specs.declared.status.Status.{Status}
 use Rattle.command_answers.specs.declared.status.Status.TheVariants as status
 use Rattle.conda_engine.specs.Leaves.{IsDone}
-use Rattle.command_answers.specs.Verdict.{all_events, design_said, texts_of_events}
-use Rattle.conda_engine.specs.Ends.{chip_account}
+use Rattle.command_answers.specs.Verdict.{Account, all_events, design_said, texts_of_events}
 
 -- what the files of configuration and image say
 abbrev pub design_of_files : Files → HostState → Design
@@ -20,13 +18,15 @@ design_of_files files s = design_said (bytes_of_file s files.config) (bytes_of_f
 abbrev pub events_of_files : Files → HostState → List Actor
 events_of_files files s = all_events (design_of_files files s) (bytes_of_file s files.schedule)
 
--- Order, report and output are the texts of all events of the schedule, by one flat memory that
--- executes the written order; and these events are lawful.
-pub record HasHeadline (files : Files) (old new : HostState) : Type 0 where
+-- Order, report and output are the texts of all events of the schedule, by what a machine says of
+-- them, which is one flat memory that executes the written order; and these events are lawful.
+pub record HasHeadline (a : Account) (law : Design → List Actor → Type 0) (files : Files)
+    (old new : HostState) : Type 0 where
   pub texts : IsDone files old new
-      (texts_of_events chip_account (design_of_files files old) (events_of_files files old))
-  pub lawful : AreLawful (design_of_files files old) (events_of_files files old)
+      (texts_of_events a (design_of_files files old) (events_of_files files old))
+  pub lawful : law (design_of_files files old) (events_of_files files old)
 
-abbrev pub HasHeadlineAtDone : Files → HostState → HostState → Status → Type 0
-HasHeadlineAtDone files old new answer =
-    IsTrue old.tells → answer ≡ status.Done → HasHeadline files old new
+abbrev pub HasHeadlineAtDone : Account → (Design → List Actor → Type 0) → Files → HostState
+    → HostState → Status → Type 0
+HasHeadlineAtDone a law files old new answer =
+    IsTrue old.tells → answer ≡ status.Done → HasHeadline a law files old new

@@ -4,6 +4,7 @@ pub mod Files
 pub mod Headline
 pub mod Laws
 pub mod Leaves
+pub mod Machines
 pub mod Rows
 pub mod SelfRun
 pub use Rattle.command_answers.specs.Answers

@@ -3,7 +3,7 @@ ghost use Rattle.std.specs.Prelude.{◌≡◌, ◌≢◌, ◌⊎◌, ◌↔◌, 
 ghost use Rattle.command_words.specs.Words.{AreApart, named};
 ghost use Rattle.command_answers.specs.Answers.{Answers};
 ghost use Rattle.conda_engine.specs.Commands.{AnswersAsked, HoldsAtDone, IsAnswerOf, asked_of};
-ghost use Rattle.conda_engine.specs.Ends.{IsLate, chip_account};
+ghost use Rattle.conda_engine.specs.Ends.{IsLate, account_of};
 ghost use Rattle.conda_engine.specs.Headline.{HasHeadlineAtDone};
 ghost use Rattle.command_answers.specs.Preparing.{IsEarly};
 ghost use Rattle.conda_engine.specs.Rows.{run_command, run_outcome};
@@ -15,23 +15,26 @@ use crate::prepared::{Prepared, prepare_files};
 use assembly_commands::{asm, dis};
 use chip_core::Chip;
 use command_answers::Status;
-use command_words::{Command, RunFiles, command_of};
+use command_words::{Command, Mode, RunFiles, command_of};
 use conda_host::Host;
+use machine_run::{Machine, Simulator};
+use nda_coarse::CoarseChip;
+use nda_fine::FineChip;
 use std::alloc::Global;
 
-// Runs a schedule on the chip.
-fn run<H: Host>(alloc: Global, names: &RunFiles, host: &mut H) -> Status
+// Runs a schedule on a machine.
+fn run<M: Simulator, H: Host>(alloc: Global, names: &RunFiles, host: &mut H) -> Status
     requires { AreApart (named names.now) }
     ensures answers { Answers (run_command (named names.now))
-        (run_outcome chip_account (named names.now) (H.state host.old))
+        (run_outcome (account_of ⟦<M as Machine>⟧ M.report) (named names.now) (H.state host.old))
         (H.state host.old) (H.state host.new) result }
-    ensures headline { HasHeadlineAtDone (named names.now) (H.state host.old) (H.state host.new)
-        result }
+    ensures headline { HasHeadlineAtDone (account_of ⟦<M as Machine>⟧ M.report) M.law
+        (named names.now) (H.state host.old) (H.state host.new) result }
     ensures end { IsEarly result ⊎ IsLate result }
     ensures told { IsTold result }
     ensures known { result ≢ Status.Usage }
 {
-    let prepared: Result<Prepared<Chip>, Status> = prepare_files(alloc, names, host);
+    let prepared: Result<Prepared<M>, Status> = prepare_files(alloc, names, host);
     match prepared {
         Ok(prepared) => {
             let (status, _) = drive(prepared, host);
@@ -41,7 +44,7 @@ fn run<H: Host>(alloc: Global, names: &RunFiles, host: &mut H) -> Status
     }
 }
 
-/// Runs the command that the words are: `run`, `self`, `asm` or `dis` with its options.
+/// Runs the command that the words are: `run`, `fine`, `coarse`, `self`, `asm` or `dis` with its options.
 ///
 /// Where memory runs out the answer is `OutOfMemory`; no clause says when.
 pub fn conda<H: Host>(alloc: Global, words: &[String], host: &mut H) -> Status
@@ -66,7 +69,9 @@ pub fn conda<H: Host>(alloc: Global, words: &[String], host: &mut H) -> Status
     ensures told { IsTold result }
 {
     match command_of(words) {
-        Some(Command::Run(files)) => run(alloc, &files, host),
+        Some(Command::Run(Mode::Conda, files)) => run::<Chip, H>(alloc, &files, host),
+        Some(Command::Run(Mode::Fine, files)) => run::<FineChip, H>(alloc, &files, host),
+        Some(Command::Run(Mode::Coarse, files)) => run::<CoarseChip, H>(alloc, &files, host),
         Some(Command::Asm(files)) => asm(alloc, &files, host),
         Some(Command::Dis(files)) => dis(alloc, &files, host),
         Some(

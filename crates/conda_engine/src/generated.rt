@@ -8,7 +8,8 @@ ghost use Rattle.self_run.specs.Designs.{design_of_seed};
 ghost use Rattle.self_run.specs.Generated.{HasRunFirst};
 ghost use Rattle.self_workload.specs.Workload.{events_of_seed};
 ghost use Rattle.command_answers.specs.Answers.{Answers};
-ghost use Rattle.conda_engine.specs.Ends.{account_of, chip_account};
+ghost use Rattle.conda_engine.specs.Ends.{account_of};
+ghost use Rattle.conda_engine.specs.Machines.{chip_account};
 ghost use Rattle.command_answers.specs.LastFile.{text_outcome};
 ghost use Rattle.conda_engine.specs.SelfRun.{IsSelfEnd, self_command, self_outcome};
 
