@@ -1,9 +1,9 @@
 // The worked examples of instructions, by the public calls.
 ghost use Rattle.std.specs.Prelude.{◌<◌, length};
 
-use rv32_hart::{Access, Code, Planned, Regs, Trap, amo_result, finish, plan};
 use arrayvec::ArrayVec;
 use rv32_decode::{AmoOp, BranchOp, Instr, LoadOp, RegOp};
+use rv32_hart::{Access, Code, Planned, Regs, Trap, amo_result, finish, plan};
 use std::alloc::{AllocError, Global};
 use std::test::Fail;
 

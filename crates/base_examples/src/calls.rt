@@ -1,6 +1,6 @@
 // The worked examples of calls.
-use offload_calls::{CoreStatus, Kernel, Served, is_put, serve_core, serve_hart, waits};
 use arrayvec::ArrayVec;
+use offload_calls::{CoreStatus, Kernel, Served, is_put, serve_core, serve_hart, waits};
 use rv32_hart::{Regs, Trap};
 
 fn one_core(status: CoreStatus) -> ArrayVec<CoreStatus, 4> {

@@ -1,12 +1,12 @@
 // Schedules in pieces, and entries read back.
 ghost use Rattle.std.specs.Prelude.{◌<◌, length};
 
+use arrayvec::ArrayVec;
+use conda_base::Actor;
 use schedule_log::{
     Entry, Fed, Last, Reader, entry_text, fine_runs_all, one_text_one_entry, pieces_join,
     read_entry,
 };
-use arrayvec::ArrayVec;
-use conda_base::Actor;
 use std::test::Fail;
 
 // The first answer to a schedule of one hart and one core, fed whole.

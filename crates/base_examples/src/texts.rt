@@ -1,5 +1,7 @@
 use arrayvec::ArrayVec;
-use conda_base::{are_digits, digit_of, is_decimal, is_numeral, push_bytes, push_decimal, word_digits};
+use conda_base::{
+    are_digits, digit_of, is_decimal, is_numeral, push_bytes, push_decimal, word_digits,
+};
 
 #[tactic(auto, using(conda_base::proofs::DecimalLemmas::length_decimal_wide))]
 fn text(n: u64) -> ArrayVec<u8, 32> {

@@ -4,11 +4,11 @@ ghost use Rattle.std.specs.Prelude.{◌≤◌};
 mod memory;
 mod uses;
 
-use streams::{Fault, MOST_PUT, Sink, put_all};
 use conda_host::{MemoryHost, Role};
 use memory::MemorySource;
 use std::alloc::{AllocError, Global};
 use std::test::Fail;
+use streams::{Fault, MOST_PUT, Sink, put_all};
 use uses::{copy_all, copy_file, read_front, write_file};
 
 // A text that is longer than a sink's buffer.

@@ -4,8 +4,8 @@ ghost use Rattle.conda_base.specs.Lines.{IsLineSize};
 ghost use Rattle.coherent_mem.specs.Parts.{shown};
 ghost use Rattle.cache_examples.specs.Tried.{IsTestMemory};
 
-use coherent_mem::Coherent;
 use arrayvec::ArrayVec;
+use coherent_mem::Coherent;
 use conda_base::{Line, Mesi};
 use line_memory::Backing;
 use mesi_directory::Row;

@@ -1,6 +1,6 @@
-use traffic_trace::{Kind, Note, Traffic};
 use conda_base::Line;
 use std::test::Fail;
+use traffic_trace::{Kind, Note, Traffic};
 
 #[test]
 fn the_last_two_notes_are_kept(rt: HostRuntime) -> Result<(), Fail> {

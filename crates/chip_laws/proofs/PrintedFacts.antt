@@ -61,11 +61,11 @@ noted-total t note kind seven small = go (is_kind kind note) refl
     go true e =
         let at : place_of note.kind ≡ place_of kind = eqb-true (place_of note.kind) (place_of kind) e in
         get_or-set_at t.totals (place_of note.kind) (place_of kind) (min (total_of t note.kind + 1) top) 0 (sym at)
-            (omega (arith, place-small note.kind))
+        (omega (arith, place-small note.kind))
         ∙ ap (λ k. min (slice_index_or t.totals k 0 + 1) top) at
     go false e =
         get_or-set_other t.totals (place_of note.kind) (place_of kind) (min (total_of t note.kind + 1) top) 0
-            (λ at. eqb-false (place_of note.kind) (place_of kind) e (sym at))
+        (λ at. eqb-false (place_of note.kind) (place_of kind) e (sym at))
         ∙ sym (min-eq_left (omega arith) ∙ plus-none (total_of t kind))
       where
         plus-none : (n : ℕ) → n + 0 ≡ n
@@ -209,7 +209,7 @@ printed d events is actors = record {
       let w = world d events in
       let few_fills : kind_count w Kind_is.Fill ≤ 0 + length events = fills-few d (start_world d) events in
       let even = uncut (kind_count w Kind_is.Fill) (kind_count w Kind_is.Evict) (kind_count w Kind_is.Drop) (length (all_tags (hart_shape d) w.tags))
-          (totals d events is actors) (omega arith) in
+      (totals d events is actors) (omega arith) in
       rw (printed-counts d w Kind_is.Fill, printed-counts d w Kind_is.Drop, printed-counts d w Kind_is.Evict) even;
 }
 

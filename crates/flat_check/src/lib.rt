@@ -10,8 +10,6 @@ mod lines;
 mod marks;
 mod portions;
 mod refusal;
-#[cfg(test)]
-mod tests;
 mod tries;
 mod walker;
 

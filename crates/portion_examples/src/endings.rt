@@ -5,11 +5,11 @@ ghost use Rattle.line_memory.specs.Backing.{bare};
 ghost use Rattle.portion_ctl.specs.States.{FitsMemory};
 ghost use Rattle.conflict_resolve.specs.InRange.{IsPortion};
 
-use conflict_resolve::{back, commit};
 use arrayvec::ArrayVec;
 use chip_config::Config;
 use coherent_mem::Coherent;
 use conda_base::Line;
+use conflict_resolve::{back, commit};
 use line_memory::{Backing, LineMemory};
 use nda_cache::Look;
 use portion_ctl::{Acted, Ended, Flushed, Open, Ready, Verdict};

@@ -1,6 +1,6 @@
 // The limits of the plain configuration.
-use try_runs::Limits;
 use chip_config::Config;
+use try_runs::Limits;
 
 #[test]
 fn limits_are_those_of_the_configuration(rt: HostRuntime) {

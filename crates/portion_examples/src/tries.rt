@@ -6,7 +6,6 @@ ghost use Rattle.portion_ctl.specs.States.{FitsMemory};
 
 mod lent;
 
-use portion_ctl::{Acted, Ended, Flushed, Open, Ready, Verdict};
 use arrayvec::ArrayVec;
 use bloom_sig::Signature;
 use chip_config::Config;
@@ -14,6 +13,7 @@ use conda_base::Line;
 use lent::Lent;
 use line_memory::{Backing, LineMemory};
 use nda_cache::Look;
+use portion_ctl::{Acted, Ended, Flushed, Open, Ready, Verdict};
 use rv32_hart::Code;
 use std::alloc::{AllocError, Global};
 use std::mem;

@@ -1,6 +1,6 @@
 // A chip that runs the worked examples.
-use chip_core::Chip;
 use chip_config::read;
+use chip_core::Chip;
 use conda_base::Actor;
 use elf_loader::load;
 use offload_calls::{CoreStatus, HartStatus};

@@ -2,9 +2,9 @@
 ghost use Rattle.std.specs.Prelude.{◌≤◌};
 ghost use Rattle.schedule_log.specs.Verdict.{most_events};
 
-use self_run::run_workload;
 use chip_core::Chip;
 use machine_run::Run;
+use self_run::run_workload;
 use std::alloc::{AllocError, Global};
 use std::test::Fail;
 

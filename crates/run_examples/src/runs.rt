@@ -2,9 +2,9 @@
 ghost use Rattle.std.specs.Prelude.{◌≡◌, ◌≤◌, None};
 ghost use Rattle.command_run.specs.Names.{HaveDistinctNames, run_names};
 
-use command_run::{RunNames, carry_out};
 use chip_config::Config;
 use chip_core::Chip;
+use command_run::{RunNames, carry_out};
 use conda_host::{MemoryHost, Role};
 use elf_loader::load;
 use machine_run::{Ending, Task};

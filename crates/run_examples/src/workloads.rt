@@ -1,6 +1,6 @@
 // Workloads whose words and actors were computed apart from this crate, by the generator's published definition.
-use self_workload::{Draws, generate};
 use conda_base::Actor;
+use self_workload::{Draws, generate};
 use std::alloc::{AllocError, Global};
 use std::test::Fail;
 

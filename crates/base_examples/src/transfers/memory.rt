@@ -1,8 +1,8 @@
 // A source in memory, and no sink: what is put goes nowhere.
 ghost use Rattle.std.specs.Prelude.{◌≤◌, length};
 
-use streams::{Fault, Streams};
 use conda_host::Role;
+use streams::{Fault, Streams};
 
 /// Bytes that are read from a place on.
 #[derive(Drop)]

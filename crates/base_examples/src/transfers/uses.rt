@@ -6,8 +6,8 @@ ghost use Rattle.streams.specs.Seen.{IsLeft, ShowsText, fault_in};
 ghost use Rattle.streams.specs.Streaming.{AreMade, AreOpen};
 ghost use Rattle.streams.specs.Sink.{SinkView};
 
-use streams::{Fault, Files, MOST_PUT, Sink, SinkFiles, Sinks, Streams, put_all};
 use conda_host::{Host, Role};
+use streams::{Fault, Files, MOST_PUT, Sink, SinkFiles, Sinks, Streams, put_all};
 
 fn open<H: Host>(host: &mut H, role: Role, name: &str) -> Result<(), Fault>
     ensures { OnOk result (IsTrue ((H.state host.new).role role).opened) }

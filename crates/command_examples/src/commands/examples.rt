@@ -3,8 +3,8 @@ use super::{
     AMPLE, ENTRY, FIRST, Grants, ONE_LETTER, ORDER, REPORT, WORDS, host_with, named, plain,
     push_words, run, run_on,
 };
-use conda_engine::{Prepared, Status, drive, prepare};
 use chip_core::Chip;
+use conda_engine::{Prepared, Status, drive, prepare};
 use conda_host::MemoryHost;
 use run_report::Shown;
 use std::test::Fail;

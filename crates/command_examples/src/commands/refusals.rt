@@ -1,9 +1,9 @@
 // Runs that are refused.
 use super::filled::Filled;
 use super::{AMPLE, ENTRY, ONE_LETTER, WORDS, host_with, named, plain, run, run_on};
-use conda_engine::{Status, conda, status_text};
 use arrayvec::ArrayVec;
 use chip_config::ConfigFault;
+use conda_engine::{Status, conda, status_text};
 use conda_host::{MemoryHost, Role};
 use elf_loader::ImageFault;
 use std::alloc::{AllocError, Global};

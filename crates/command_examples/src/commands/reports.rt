@@ -4,8 +4,8 @@ ghost use Rattle.std.specs.Prelude.{◌<◌};
 use super::chip::{GRANTS, Text, config_of, has_order, image_of, push_text};
 use super::chip_programs::{ONE_SET, ORDINARY_USE, SILENT_STORE};
 use super::run_on;
-use conda_engine::Status;
 use conda_base::word_digits;
+use conda_engine::Status;
 use std::alloc::{AllocError, Global};
 use std::test::Fail;
 

@@ -1,7 +1,8 @@
 // Orders of the worked example of two cores, judged line by line.
-use crate::{Checker, OrderFault, Refusal};
+
 use chip_config::read;
 use elf_loader::load;
+use flat_check::{Checker, OrderFault, Refusal};
 use offload_calls::CoreStatus;
 use run_report::Shown;
 use schedule_log::read_entry;
