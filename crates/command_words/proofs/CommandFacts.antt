@@ -9,7 +9,7 @@ use Rattle.command_words.specs.declared.table.Kind.TheVariants as kind
 use Rattle.command_words.specs.declared.command.Command.{Command}
 use Rattle.command_words.specs.declared.command.Mode.TheVariants as mode
 use Rattle.command_words.specs.Options.{Given, Known, are_different, are_options, file_values, fits, has_place, is_option, one_number, options_of, given_pair, suits, values_of}
-use Rattle.command_words.specs.Words.{AreApart, Asked, Run, Compare, SelfRun, Asm, Dis, HasAllowedValues, asked, asked_with, command_named, files_in, free_file, needed_file, needed_number, amount_in, name_in, compare_files_in, compare_options, program_files_in, program_options, run_options, self_options, self_run_in, where_allowed}
+use Rattle.command_words.specs.Words.{AreApart, Asked, Run, SelfRun, Asm, Dis, HasAllowedValues, asked, asked_with, command_named, files_in, free_file, needed_file, needed_number, amount_in, name_in, program_files_in, program_options, run_options, self_options, self_run_in, where_allowed}
 use Rattle.command_words.proofs.ValueFacts.{in_range, apart_free, apart_needed, both, no_number, of_kind, one_number_is}
 
 -- ---- what a table allows
@@ -169,17 +169,9 @@ abbrev from_self : List ℕ → List Given → Option Asked
 from_self name options =
     if bytes_eq name (codes "self") then where_allowed self_options options (self_run_in options) else from_asm name options
 
-abbrev from_compare : List ℕ → List Given → Option Asked
-from_compare name options =
-    if bytes_eq name (codes "compare") then where_allowed compare_options options (Compare (compare_files_in options)) else from_self name options
-
-abbrev from_coarse : List ℕ → List Given → Option Asked
-from_coarse name options =
-    if bytes_eq name (codes "coarse") then where_allowed run_options options (Run mode.Coarse (files_in options)) else from_compare name options
-
 abbrev from_fine : List ℕ → List Given → Option Asked
 from_fine name options =
-    if bytes_eq name (codes "fine") then where_allowed run_options options (Run mode.Fine (files_in options)) else from_coarse name options
+    if bytes_eq name (codes "fine") then where_allowed run_options options (Run mode.Fine (files_in options)) else from_self name options
 
 -- what a choice gives is allowed, where both ways give what is
 either : (t : Bool) (table : List Known) (options : List Given) (a b : Asked) (rest : Option Asked)
@@ -191,12 +183,10 @@ either false table options a b rest one other h = other h
 sound_by : (name : List ℕ) (options : List Given) (a : Asked) → asked_with name options ≡ Some a → HasAllowedValues a
 sound_by name options a =
     either (bytes_eq name (codes "run")) run_options options (Run mode.Conda (files_in options)) a (from_fine name options) (apart_of_run options)
-    (either (bytes_eq name (codes "fine")) run_options options (Run mode.Fine (files_in options)) a (from_coarse name options) (apart_of_run options)
-    (either (bytes_eq name (codes "coarse")) run_options options (Run mode.Coarse (files_in options)) a (from_compare name options) (apart_of_run options)
-    (either (bytes_eq name (codes "compare")) compare_options options (Compare (compare_files_in options)) a (from_self name options) (λ h. tt)
+    (either (bytes_eq name (codes "fine")) run_options options (Run mode.Fine (files_in options)) a (from_self name options) (apart_of_run options)
     (either (bytes_eq name (codes "self")) self_options options (self_run_in options) a (from_asm name options) (events_of_self options)
     (either (bytes_eq name (codes "asm")) program_options options (Asm (program_files_in options)) a (from_dis name options) (apart_of_program options)
-    (either (bytes_eq name (codes "dis")) program_options options (Dis (program_files_in options)) a None (apart_of_program options) (λ h. absurd_none a h)))))))
+    (either (bytes_eq name (codes "dis")) program_options options (Dis (program_files_in options)) a None (apart_of_program options) (λ h. absurd_none a h)))))
   where
     absurd_none : (a : Asked) → None ≡ Some a → HasAllowedValues a
     absurd_none a h = cc

@@ -4,7 +4,6 @@ use Rattle.std.specs.Str.{bytes_eq}
 use Rattle.conda_base.specs.Digits.{number_after}
 use Rattle.schedule_log.specs.Verdict.{most_events}
 use Rattle.command_words.specs.declared.command.RunFiles.{RunFiles}
-use Rattle.command_words.specs.declared.command.CompareFiles.{CompareFiles as CompareWords}
 use Rattle.command_words.specs.declared.command.ProgramFiles.{ProgramFiles as ProgramWords}
 use Rattle.command_words.specs.declared.command.Mode.{Mode}
 use Rattle.command_words.specs.declared.command.Mode.TheVariants as mode
@@ -27,7 +26,7 @@ free_file name = record { name = name; is_needed = false; kind = kind.File }
 abbrev pub needed_number : List ℕ → ℕ → ℕ → Known
 needed_number name from to = record { name = name; is_needed = true; kind = kind.Number from to }
 
--- the options of `run`, `fine` and `coarse`
+-- the options of `run` and of `fine`
 abbrev pub run_options : List Known
 run_options =
     needed_file (codes "--config")
@@ -36,15 +35,6 @@ run_options =
     ∷ needed_file (codes "--order")
     ∷ needed_file (codes "--report")
     ∷ free_file (codes "--output")
-    ∷ []
-
--- those of `compare`
-abbrev pub compare_options : List Known
-compare_options =
-    needed_file (codes "--config")
-    ∷ needed_file (codes "--image")
-    ∷ needed_file (codes "--schedule")
-    ∷ needed_file (codes "--report")
     ∷ []
 
 -- those of `self`
@@ -70,23 +60,15 @@ pub record Files : Type 0 where
   pub report : List ℕ
   pub output : Option (List ℕ)
 
--- those of a comparison of the three machines
-pub record CompareFiles : Type 0 where
-  pub config : List ℕ
-  pub image : List ℕ
-  pub schedule : List ℕ
-  pub report : List ℕ
-
 -- those of a program's text and of its image
 pub record ProgramFiles : Type 0 where
   pub source : List ℕ
   pub program : List ℕ
 
--- a command with what its options say: `run`, `fine` and `coarse` are runs on one of three machines;
--- `self` has a seed, a number of events and its report
+-- a command with what its options say: `run` and `fine` are runs on one of two machines; `self` has
+-- a seed, a number of events and its report
 pub data Asked : Type 0 where
   Run : Mode → Files → Asked
-  Compare : CompareFiles → Asked
   SelfRun : ℕ → ℕ → List ℕ → Asked
   Asm : ProgramFiles → Asked
   Dis : ProgramFiles → Asked
@@ -107,14 +89,6 @@ files_in options = record {
   order = name_in (codes "--order") options;
   report = name_in (codes "--report") options;
   output = first_value (codes "--output") options;
-}
-
-abbrev pub compare_files_in : List Given → CompareFiles
-compare_files_in options = record {
-  config = name_in (codes "--config") options;
-  image = name_in (codes "--image") options;
-  schedule = name_in (codes "--schedule") options;
-  report = name_in (codes "--report") options;
 }
 
 abbrev pub program_files_in : List Given → ProgramFiles
@@ -139,17 +113,13 @@ asked_with name options =
     then where_allowed run_options options (Run mode.Conda (files_in options))
     else (if bytes_eq name (codes "fine")
     then where_allowed run_options options (Run mode.Fine (files_in options))
-    else (if bytes_eq name (codes "coarse")
-    then where_allowed run_options options (Run mode.Coarse (files_in options))
-    else (if bytes_eq name (codes "compare")
-    then where_allowed compare_options options (Compare (compare_files_in options))
     else (if bytes_eq name (codes "self")
     then where_allowed self_options options (self_run_in options)
     else (if bytes_eq name (codes "asm")
     then where_allowed program_options options (Asm (program_files_in options))
     else (if bytes_eq name (codes "dis")
     then where_allowed program_options options (Dis (program_files_in options))
-    else None))))))
+    else None))))
 
 -- what the words ask for, if they are the words of a command
 abbrev pub asked : List (List ℕ) → Option Asked
@@ -176,20 +146,11 @@ named n = record {
   output = option_map (λ s. s.now) n.output;
 }
 
-abbrev pub compare_named : CompareWords → CompareFiles
-compare_named n = record {
-  config = n.config.now;
-  image = n.image.now;
-  schedule = n.schedule.now;
-  report = n.report.now;
-}
-
 abbrev pub program_named : ProgramWords → ProgramFiles
 program_named n = record { source = n.source.now; program = n.program.now }
 
 abbrev pub command_named : Command → Asked
 command_named (command.Run mode files) = Run mode (named files)
-command_named (command.Compare files) = Compare (compare_named files)
 command_named (command.SelfRun seed events report) = SelfRun seed events report.now
 command_named (command.Asm files) = Asm (program_named files)
 command_named (command.Dis files) = Dis (program_named files)
@@ -205,7 +166,6 @@ pub record AreApart (files : Files) : Type 0 where
 -- what is asked can be done: files that are apart, and a number of events in its range
 abbrev pub HasAllowedValues : Asked → Type 0
 HasAllowedValues (Run mode files) = AreApart files
-HasAllowedValues (Compare files) = Unit {0}
 HasAllowedValues (SelfRun seed events report) = (1 ≤ events) × (events ≤ most_events)
 HasAllowedValues (Asm files) = files.source ≢ files.program
 HasAllowedValues (Dis files) = files.source ≢ files.program

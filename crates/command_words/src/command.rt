@@ -2,7 +2,7 @@
 ghost use Rattle.std.specs.Prelude.{◌≡◌, ◌≤◌, ◌&&◌, Some, None, MatchOption, IfSome, map, option_map, string_bytes, true, false};
 ghost use Rattle.std.specs.List.{list_all};
 ghost use Rattle.command_words.specs.Options.{are_different, are_options, file_values, has_place, is_option, known, one_number, options_of, values_of};
-ghost use Rattle.command_words.specs.Words.{AreApart, HasAllowedValues, run_files, run_of, Asm, Compare, Dis, Run, asked, compare_files_in, compare_named, compare_options, asked_with, command_named, files_in, named, program_files_in, program_named, program_options, run_options, self_options, self_run_in, where_allowed};
+ghost use Rattle.command_words.specs.Words.{AreApart, HasAllowedValues, run_files, run_of, Asm, Dis, Run, asked, asked_with, command_named, files_in, named, program_files_in, program_named, program_options, run_options, self_options, self_run_in, where_allowed};
 
 use crate::number::number_in;
 use crate::options::{needed_value, value_of};
@@ -27,29 +27,17 @@ pub struct ProgramFiles<'a> {
     pub program: &'a str,
 }
 
-/// The files of a comparison of the three machines.
-#[derive(Clone, Copy)]
-pub struct CompareFiles<'a> {
-    pub config: &'a str,
-    pub image: &'a str,
-    pub schedule: &'a str,
-    pub report: &'a str,
-}
-
-/// How near-data cores run kernels: in portions, as one more user of the harts' coherent memory, or
-/// one at a time with all others held.
+/// How near-data cores run kernels: in portions, or as further users of the harts' coherent memory.
 #[derive(Clone, Copy)]
 pub enum Mode {
     Conda,
     Fine,
-    Coarse,
 }
 
 /// A command, with what its options say.
 #[derive(Clone, Copy)]
 pub enum Command<'a> {
     Run(Mode, RunFiles<'a>),
-    Compare(CompareFiles<'a>),
     SelfRun {
         seed: u64,
         events: u32,
@@ -88,29 +76,6 @@ const RUN_OPTIONS: [KnownOption; 6] = [
     KnownOption {
         name: "--output",
         is_needed: false,
-        kind: Kind::File,
-    },
-];
-
-const COMPARE_OPTIONS: [KnownOption; 4] = [
-    KnownOption {
-        name: "--config",
-        is_needed: true,
-        kind: Kind::File,
-    },
-    KnownOption {
-        name: "--image",
-        is_needed: true,
-        kind: Kind::File,
-    },
-    KnownOption {
-        name: "--schedule",
-        is_needed: true,
-        kind: Kind::File,
-    },
-    KnownOption {
-        name: "--report",
-        is_needed: true,
         kind: Kind::File,
     },
 ];
@@ -158,12 +123,6 @@ fn options_of_run() -> &'static [KnownOption]
     &RUN_OPTIONS
 }
 
-fn options_of_compare() -> &'static [KnownOption]
-    ensures { map known result.now ≡ compare_options }
-{
-    &COMPARE_OPTIONS
-}
-
 fn options_of_self() -> &'static [KnownOption]
     ensures { map known result.now ≡ self_options }
 {
@@ -203,21 +162,6 @@ fn run_files_in(words: &[String]) -> Option<RunFiles<'_>>
     })
 }
 
-// The files of a comparison, where each option stands as it must.
-fn compare_files_in(words: &[String]) -> Option<CompareFiles<'_>>
-    ensures { let options = options_of (map string_bytes words.now) in
-        let stand = list_all (has_place options) compare_options in
-        MatchOption result (stand ≡ false)
-        (λ n. (stand ≡ true) × (compare_files_in options ≡ compare_named n)) }
-{
-    Some(CompareFiles {
-        config: needed_value(words, "--config")?,
-        image: needed_value(words, "--image")?,
-        schedule: needed_value(words, "--schedule")?,
-        report: needed_value(words, "--report")?,
-    })
-}
-
 // The files of a program, where each option stands as it must.
 fn program_files_in(words: &[String]) -> Option<ProgramFiles<'_>>
     ensures { let options = options_of (map string_bytes words.now) in
@@ -251,20 +195,6 @@ fn run_command(mode: Mode, words: &[String]) -> Option<Command<'_>>
     }
     match run_files_in(words) {
         Some(files) => Some(Command::Run(mode, files)),
-        None => None,
-    }
-}
-
-fn compare_command(words: &[String]) -> Option<Command<'_>>
-    ensures { let options = options_of (map string_bytes words.now) in
-        let asked = where_allowed compare_options options (Compare (compare_files_in options)) in
-        MatchOption result (asked ≡ None) (λ c. asked ≡ Some (command_named c)) }
-{
-    if !are_allowed(options_of_compare(), words) {
-        return None;
-    }
-    match compare_files_in(words) {
-        Some(files) => Some(Command::Compare(files)),
         None => None,
     }
 }
@@ -332,10 +262,6 @@ fn command_by<'a>(name: &str, words: &'a [String]) -> Option<Command<'a>>
         run_command(Mode::Conda, words)
     } else if name == "fine" {
         run_command(Mode::Fine, words)
-    } else if name == "coarse" {
-        run_command(Mode::Coarse, words)
-    } else if name == "compare" {
-        compare_command(words)
     } else if name == "self" {
         self_command(words)
     } else if name == "asm" {

@@ -6,6 +6,4 @@ mod number;
 mod options;
 mod table;
 
-pub use command::{
-    Command, CompareFiles, Mode, ProgramFiles, RunFiles, command_of, run_files,
-};
+pub use command::{Command, Mode, ProgramFiles, RunFiles, command_of, run_files};

@@ -1,7 +1,7 @@
 -- The machines that commands run: what each says of events, and what holds of these.
 use Rattle.std.specs.Prelude.{List}
 use Rattle.conda_base.specs.declared.actor.Actor.{Actor}
-use Rattle.baseline_laws.specs.Laws.{AreCoarseLawful, AreFineLawful}
+use Rattle.baseline_laws.specs.Laws.{AreFineLawful}
 use Rattle.chip_core.specs.Reports.{report_of_events}
 use Rattle.chip_laws.specs.Design.{Design}
 use Rattle.chip_laws.specs.Lawful.{AreLawful}
@@ -9,7 +9,6 @@ use Rattle.chip_laws.specs.Worlds.{journal, output_of}
 use Rattle.command_answers.specs.Verdict.{Account}
 use Rattle.command_words.specs.declared.command.Mode.{Mode}
 use Rattle.command_words.specs.declared.command.Mode.TheVariants as mode
-use Rattle.nda_coarse.specs.Coarse.{coarse_journal, coarse_output, coarse_report}
 use Rattle.nda_fine.specs.Fine.{fine_journal, fine_output, fine_report}
 
 -- the account of the chip
@@ -24,16 +23,10 @@ chip_account = record {
 abbrev pub fine_account : Account
 fine_account = record { journal = fine_journal; output = fine_output; report = fine_report }
 
--- that of the machine whose kernels hold all others
-abbrev pub coarse_account : Account
-coarse_account = record { journal = coarse_journal; output = coarse_output; report = coarse_report }
-
 abbrev pub account_in : Mode → Account
 account_in mode.Conda = chip_account
 account_in mode.Fine = fine_account
-account_in mode.Coarse = coarse_account
 
 abbrev pub law_in : Mode → Design → List Actor → Type 0
 law_in mode.Conda = AreLawful
 law_in mode.Fine = AreFineLawful
-law_in mode.Coarse = AreCoarseLawful

@@ -18,7 +18,6 @@ use command_answers::Status;
 use command_words::{Command, Mode, RunFiles, command_of};
 use conda_host::Host;
 use machine_run::{Machine, Simulator};
-use nda_coarse::CoarseChip;
 use nda_fine::FineChip;
 use std::alloc::Global;
 
@@ -44,7 +43,7 @@ fn run<M: Simulator, H: Host>(alloc: Global, names: &RunFiles, host: &mut H) -> 
     }
 }
 
-/// Runs the command that the words are: `run`, `fine`, `coarse`, `self`, `asm` or `dis` with its options.
+/// Runs the command that the words are: `run`, `fine`, `self`, `asm` or `dis` with its options.
 ///
 /// Where memory runs out the answer is `OutOfMemory`; no clause says when.
 pub fn conda<H: Host>(alloc: Global, words: &[String], host: &mut H) -> Status
@@ -71,7 +70,6 @@ pub fn conda<H: Host>(alloc: Global, words: &[String], host: &mut H) -> Status
     match command_of(words) {
         Some(Command::Run(Mode::Conda, files)) => run::<Chip, H>(alloc, &files, host),
         Some(Command::Run(Mode::Fine, files)) => run::<FineChip, H>(alloc, &files, host),
-        Some(Command::Run(Mode::Coarse, files)) => run::<CoarseChip, H>(alloc, &files, host),
         Some(Command::Asm(files)) => asm(alloc, &files, host),
         Some(Command::Dis(files)) => dis(alloc, &files, host),
         Some(

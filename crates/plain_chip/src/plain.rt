@@ -1,5 +1,5 @@
 // The parts of a machine, held together.
-ghost use Rattle.std.specs.Prelude.{◌≡◌, ◌<◌, ◌≤◌, [], IfOk, length, true};
+ghost use Rattle.std.specs.Prelude.{◌≡◌, ◌<◌, ◌≤◌, ◌+◌, [], IfOk, length, true};
 ghost use Rattle.coherent_mem.specs.Parts.{shown};
 ghost use Rattle.line_memory.specs.Tags.{Shape};
 ghost use Rattle.chip_laws.specs.Design.{Design, design_for};
@@ -112,6 +112,14 @@ impl Plain {
         ensures few { result ≤ 4 }
     {
         self.config.cores as u8
+    }
+
+    /// The number of a core as a holder, behind the harts.
+    pub fn holder_of(&self, j: u8) -> u8
+        requires { j < self.now.config.cores }
+        ensures { result ≡ self.now.config.harts + j }
+    {
+        self.config.harts as u8 + j
     }
 
     /// One event of a hart, which may be held.

@@ -4,6 +4,8 @@
 #[cfg(test)]
 mod chips;
 #[cfg(test)]
+mod fine_chips;
+#[cfg(test)]
 mod generated_runs;
 #[cfg(test)]
 mod runs;
