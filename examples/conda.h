@@ -1,8 +1,14 @@
 // The five calls of the chip, as C functions. Besides, `KERNEL(name)` makes a function one that a core can be
-// launched on.
+// launched on, and `MAIN` begins a main that is told its hart's number and the number of harts.
 //
-// The same source compiles for the machine that compiles it: there a launch runs the whole kernel at once. So a
-// program whose output doesn't depend on who comes first puts the same text on both.
+// The same source compiles for the machine that compiles it: there a launch runs the whole kernel at once, and there is
+// one hart. So a program whose output doesn't depend on who comes first puts the same text on both.
+//
+// What harts and kernels may use: the instructions of rv32im, and the word atomics of rv32ima but for compare-and-exchange
+// (lr and sc trap as no instruction, cause 2), so __atomic_fetch_add and __atomic_exchange_n on words, and no
+// __atomic_compare_exchange; no atomics on bytes and halves, which compilers make of lr and sc or of calls; no floats in
+// registers. Besides, a kernel may make the calls `put` and `done` alone: another traps (cause 8). A load or store at an
+// address that is no multiple of its size traps (causes 4 and 6).
 //
 // A kernel's portion reads memory's own bytes: what a hart stored shortly before is stale there, until a rollback
 // flushed it.
@@ -26,6 +32,9 @@ struct answer {
 typedef unsigned kernel_function(uintptr_t argument, unsigned core);
 
 #ifdef __riscv
+
+// Each hart runs main, with its number, from 0 on, and the number of harts. What main returns is the exit's value.
+#define MAIN(hart, harts) int main(unsigned hart, unsigned harts)
 
 // A core begins at an address, and with all registers 0 but its argument. So a kernel has an entry for each core, of
 // sixteen bytes, which tells the start file what core it is and what function to call.
@@ -93,6 +102,13 @@ __attribute__((noreturn)) static inline void done(unsigned value) {
 
 #include <setjmp.h>
 #include <stdio.h>
+
+#define MAIN(hart, harts)                                                       \
+    static int program(unsigned hart, unsigned harts);                          \
+    int main(void) {                                                            \
+        return program(0, 1);                                                   \
+    }                                                                           \
+    static int program(unsigned hart, unsigned harts)
 
 typedef kernel_function *kernel_entries;
 
