@@ -17,6 +17,11 @@ LAST_LETTERS = {"w": "it waits for a core", "x": "it is held by a core's lock",
 class NeverEnded(Refused):
     """Some hart hadn't ended after the limit."""
 
+    def __init__(self, words, places):
+        super().__init__(words)
+        # The pcs of the harts that hadn't ended.
+        self.places = places
+
 
 class Trial:
     """Runs of a program on one configuration and image, in a folder of their own."""
@@ -34,7 +39,8 @@ class Trial:
                 if not self.running(report):
                     return self.events_until_last_step(), report
                 if events == limit:
-                    raise NeverEnded(self.what_never_ended(report, limit))
+                    raise NeverEnded(self.what_never_ended(report, limit),
+                                     [report.harts[number].pc for number in self.running(report)])
                 events = min(2 * events, limit)
 
     def run(self, turns, events):

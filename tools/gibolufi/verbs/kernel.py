@@ -5,14 +5,15 @@ import shutil
 import sys
 import webbrowser
 
-from gibolufi import compiling, configuration, order, program, summary
+from gibolufi import compiling, configuration, program, summary
+from gibolufi.explain import explain
 from gibolufi.progress import Progress
 from gibolufi.report import Report
 from gibolufi.schedules import MOST_EVENTS, Turns
-from gibolufi.trial import NeverEnded, Trial, run_program
+from gibolufi.trial import NeverEnded, Trial
 from gibolufi.verbs import schedule as schedule_verb
 from gibolufi.verbs import timeline as timeline_verb
-from gibolufi.words import BadWord, Refused, read_words, shown, whole_number
+from gibolufi.words import BadWord, Refused, listed, read_words, shown, whole_number
 
 USAGE = """gibolufi kernel FILE.c .. [--config JSON or F] [--schedule WORDS or F] [--libc] [--open]
 
@@ -60,7 +61,6 @@ class Kernel:
                 raise Refused(f"{source}: {what}")
         self.compiler = compiling.Compiler(options.get("compiler"))
         self.program = program.find(options.get("program"))
-        program.warn_if_unproved(self.program)
         name = os.path.splitext(os.path.basename(sources[0]))[0]
         self.folder = options.get("out", os.path.join(os.path.dirname(sources[0]), name + ".run"))
 
@@ -123,7 +123,8 @@ class Kernel:
         try:
             return trial.events_until_ended(turns, limit)[0], ""
         except NeverEnded as fault:
-            return limit, f"{fault}; --limit N tries more"
+            where = [place for place in map(self.place, fault.places) if place]
+            return limit, f"{fault}{': ' if where else ''}{listed(where)}; --limit N tries more"
 
     def run(self):
         """Runs the schedule; the status is the simulator's."""
@@ -132,10 +133,10 @@ class Kernel:
                  "--output", self.at("output")]
         return program.run(self.program, words), words
 
-    def draw(self, title):
+    def draw(self, title, head):
         """Makes the page of the run."""
         run = timeline_verb.Run(self.at("order"), Report(self.at("report")))
-        run.named(os.path.basename(self.program), title)
+        run.named(title, head)
         self.write("page.html", timeline_verb.page_of(run))
         return run
 
@@ -182,17 +183,17 @@ def main(words):
     os.makedirs(kernel.folder, exist_ok=True)
     given = kernel.configure()
     kernel.compile()
+    program.warn_if_unproved(kernel.program)
     turns, note = kernel.schedule()
     (status, said), ran = kernel.run()
     sys.stderr.write(said)
     if status:
-        from gibolufi.explain import explain
         for line in explain(ran, status, said):
             print(f"gibolufi kernel: {line}", file=sys.stderr)
         return status if status > 0 else 128 - status
-    title = f"{' '.join(os.path.basename(it) for it in sources)} with {given}"
-    run = kernel.draw(title)
-    print(f"{title}, {turns}")
+    title = " ".join(map(os.path.basename, sources))
+    run = kernel.draw(title, f"{given}, {turns}, in {os.path.basename(kernel.folder)}: order, report")
+    print(f"{title} with {given}, {turns}")
     sys.stdout.write(summary.as_text(kernel.lines(run, note)))
     print(f"results in {kernel.folder}: page.html, order, report, output, schedule, config.json, image.elf")
     if "open" in options:
