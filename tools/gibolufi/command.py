@@ -63,8 +63,8 @@ def versions():
     lines = [f"gibolufi {VERSION}, Python {sys.version.split()[0]}"]
     try:
         path = program.find()
-        state = "unproved" if program.is_unproved(path) else "given by CONDA" if os.environ.get(
-            places.VARIABLE) else "proved by scripts/build"
+        state = "UNPROVED" if program.is_unproved(path) else "given by CONDA" if os.environ.get(
+            places.VARIABLE) else "proved by scripts/build" if places.IS_CHECKOUT else "installed"
         lines.append(f"program {path} ({state})")
     except Refused as fault:
         lines.append(f"program: {fault}")
