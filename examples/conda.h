@@ -31,10 +31,13 @@ struct answer {
 // the value of its `done`.
 typedef unsigned kernel_function(uintptr_t argument, unsigned core);
 
+// For parameters that a kernel or a main may leave unused.
+#define MAYBE_UNUSED __attribute__((unused))
+
 #ifdef __riscv
 
 // Each hart runs main, with its number, from 0 on, and the number of harts. What main returns is the exit's value.
-#define MAIN(hart, harts) int main(unsigned hart, unsigned harts)
+#define MAIN(hart, harts) int main(unsigned hart MAYBE_UNUSED, unsigned harts MAYBE_UNUSED)
 
 // A core begins at an address, and with all registers 0 but its argument. So a kernel has an entry for each core, of
 // sixteen bytes, which tells the start file what core it is and what function to call.
@@ -55,7 +58,7 @@ typedef const char *kernel_entries;
             ".set core, core + 1\n"                                             \
             ".endr\n"                                                           \
             ".popsection\n");                                                   \
-    __attribute__((used)) unsigned name(uintptr_t argument, unsigned core)
+    __attribute__((used)) unsigned name(uintptr_t argument MAYBE_UNUSED, unsigned core MAYBE_UNUSED)
 
 static inline unsigned launch(unsigned core, kernel_entries kernel, uintptr_t argument) {
     register uintptr_t a0 __asm__("a0") = core;
@@ -108,14 +111,14 @@ __attribute__((noreturn)) static inline void done(unsigned value) {
     int main(void) {                                                            \
         return program(0, 1);                                                   \
     }                                                                           \
-    static int program(unsigned hart, unsigned harts)
+    static int program(unsigned hart MAYBE_UNUSED, unsigned harts MAYBE_UNUSED)
 
 typedef kernel_function *kernel_entries;
 
 #define KERNEL(name)                                                            \
     unsigned name(uintptr_t argument, unsigned core);                           \
     static kernel_function *const name##_entries = name;                        \
-    unsigned name(uintptr_t argument, unsigned core)
+    unsigned name(uintptr_t argument MAYBE_UNUSED, unsigned core MAYBE_UNUSED)
 
 static struct answer cores[4];
 static unsigned running;

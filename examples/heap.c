@@ -14,7 +14,6 @@ struct link {
 
 KERNEL(sum_of) {
     unsigned sum = 0;
-    (void)core;
     for (const struct link *at = (const struct link *)argument; at; at = at->next)
         sum += at->word;
     return sum;

@@ -25,7 +25,7 @@ WORDS = ("{a} executes one instruction",
 ENDS = ("", "ended by the kernel's end", "ended by a trap", "ended by its most instructions",
         "ended by a full set of its cache", "ended by its most lines read",
         "ended by its most lines written", "ended by its most bytes of output")
-SHORT_ENDS = ("", "kernel's end", "trap", "most instructions", "set full", "most lines read",
+SHORT_ENDS = ("", "the kernel's end", "trap", "most instructions", "set full", "most lines read",
               "most lines written", "output full")
 MOST_ACTS = 65536
 MOST_EVENTS = 67108864

@@ -54,7 +54,7 @@ class Kernel(InFolder):
                 self.assertEqual((status, lines["hart 0"]), (0, "exited with 3"), said)
                 self.assertEqual(lines["output"], "6 bytes: 'sum 8'")
                 self.assertIn("1 committed, 1 rolled back", lines["portions"])
-                self.assertEqual(lines["rollbacks"], "1 by kernel's end")
+                self.assertEqual(lines["rollbacks"], "1 by the kernel's end")
                 self.assertIn("corefill", lines["traffic"])
                 folder = os.path.join(self.folder, "k.run")
                 self.assertIn(f"results in {folder}", said)

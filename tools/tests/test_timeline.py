@@ -71,13 +71,13 @@ class Forms(InFolder):
         entries = [row["entry"] for row in rows for _ in range(int(row["events"])) if row["entry"]]
         self.assertEqual(entries, ORDER.splitlines())
         self.assertEqual([(row["what"], row["instructions"], row["ended_by"]) for row in rows if not row["entry"]],
-                         [("rollback of a portion", "4", "kernel's end"), ("commit of a portion", "4", "kernel's end"),
+                         [("rollback of a portion", "4", "the kernel's end"), ("commit of a portion", "4", "the kernel's end"),
                           ("commit of a portion under the lock", "3", "most instructions")])
 
     def test_the_totals_are_text(self):
         text = done("timeline", "--totals", "--config", "a/c.json", "--image", "b/k.elf", *self.run_files())[1]
         for part in ("run        k.elf: c.json, order, report", "hart 0     exit 00000000; 10 steps, 1 wait, 1 idle, 3 held",
-                     "rollbacks  1 by kernel's end; 4 instructions undone", "traffic    fill 1, back 1, down 0"):
+                     "rollbacks  1 by the kernel's end; 4 instructions undone", "traffic    fill 1, back 1, down 0"):
             self.assertIn(part, text)
 
     def test_a_cut_keeps_the_portions_that_reach_over_its_ends(self):
