@@ -12,13 +12,23 @@ from gibolufi.pictures.run import range_words, totals
 PAGE = os.path.join(os.path.dirname(os.path.abspath(__file__)), "page.html")
 
 
+# So many bytes are tried to see which way of packing is shorter.
+SAMPLE = 1 << 18
+WAYS = ((6, zlib.Z_DEFAULT_STRATEGY), (1, zlib.Z_HUFFMAN_ONLY))
+
+
+def deflated(held, level, strategy):
+    """Bytes, deflated in a way."""
+    packer = zlib.compressobj(level, zlib.DEFLATED, 15, 9, strategy)
+    return packer.compress(held) + packer.flush()
+
+
 def packed(held):
-    """Bytes as the page takes them: deflated, in whichever way is shorter, as base64."""
-    ways = []
-    for level, strategy in ((6, zlib.Z_DEFAULT_STRATEGY), (1, zlib.Z_HUFFMAN_ONLY)):
-        packer = zlib.compressobj(level, zlib.DEFLATED, 15, 9, strategy)
-        ways.append(packer.compress(held) + packer.flush())
-    return base64.b64encode(min(ways, key=len)).decode()
+    """Bytes as the page takes them: deflated in whichever way is shorter for their middle, as base64."""
+    middle = max(0, len(held) - SAMPLE) // 2
+    sample = held[middle:middle + SAMPLE]
+    way = min(WAYS, key=lambda it: len(deflated(sample, *it)))
+    return base64.b64encode(deflated(held, *way)).decode()
 
 
 def packed_ends(run):

@@ -34,8 +34,13 @@ class Portion:
         return f"committed: {acts}, {order.ENDS[self.cause]}"
 
     def label(self):
-        """What stands in its bar."""
+        """What it came to."""
         return ("under the lock, " if self.is_locked else "") + self.ending()
+
+    def labels(self):
+        """What may stand in its bar: the first that has room."""
+        ended = {order.BACK: "rolled back: {:,} undone", order.COMMIT: "committed: {:,}"}.get(self.end, "open")
+        return self.label(), ended.format(self.acts)
 
 
 class Run:

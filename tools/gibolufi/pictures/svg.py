@@ -81,11 +81,13 @@ class Picture:
             self.box((x, y + 1), (drawn, LANE - 2), "url(#hatch)", portion.words(name))
         if portion.is_locked:
             self.box((x, y + 1), (drawn, 4), colours.LOCK)
-        wanted = 5.9 * len(portion.label()) + 8
-        if wide > wanted:
-            self.box((x + 2, y + 6), (wanted - 2, 14), colour)
-            shade = "light" if colours.ON[portion.end] == colours.LIGHT else "dark"
-            self.text(x + 5, y + 17, portion.label(), f' class="small {shade}"')
+        for label in portion.labels():
+            wanted = 5.9 * len(label) + 8
+            if wide > wanted:
+                self.box((x + 2, y + 6), (wanted - 2, 14), colour)
+                shade = "light" if colours.ON[portion.end] == colours.LIGHT else "dark"
+                self.text(x + 5, y + 17, label, f' class="small {shade}"')
+                break
 
     def bars(self):
         """The runs of equal entries; columns gather those that are narrower."""
