@@ -27,6 +27,8 @@ HINTS = (
     (r"conda\.h: No such file|'conda\.h' file not found", "conda.h is found by `gibolufi kernel` itself: include \"conda.h\""),
     (r"(?:stdio|stdlib|string|errno|math)\.h: No such file|'(?:stdio|stdlib|string|errno|math)\.h' file not found",
      "that header is of the C library: add --libc"),
+    (r"passing argument 2 of .launch. from incompatible|to parameter of type 'kernel_entries'",
+     "a kernel is launched by its entries: launch(core, NAME_entries, argument)"),
     (r"reach past memory_end", "raise `mem_bytes`, or make stacks and arrays smaller"),
 )
 
@@ -80,7 +82,7 @@ class Compiler:
                              check=False)
         if ran.returncode:
             raise Refused(f"the program doesn't compile:\n{(ran.stdout + ran.stderr).rstrip()}{hints(ran.stderr)}")
-        return ran.stderr
+        return ran.stderr + hints(ran.stderr).lstrip("\n") + ("\n" if hints(ran.stderr) else "")
 
     def tool(self, name):
         """A tool of the compiler's: nm or addr2line, or "" where it is missing."""

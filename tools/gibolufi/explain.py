@@ -213,7 +213,7 @@ def memory_words(path):
         memory = None
     if memory is None:
         return ["no configuration's memory (at most 67,108,864 bytes) holds all of it: link it with conda.ld"]
-    return [f'its segments lie in memory with {{"mem_base":{memory[0]},"mem_bytes":{memory[1]}}} or more bytes']
+    return [f'its segments, and stacks past them, lie in memory with {{"mem_base":{memory[0]},"mem_bytes":{memory[1]}}}']
 
 
 def bad_line(table, role, numbers, named):
@@ -240,4 +240,6 @@ def swapped(role, named):
     looks = kind_of(named.get(role, ""))
     if not looks or looks == WANTED.get(role):
         return []
+    if looks == "C source":
+        return [f"{named[role]!r} looks like a C source: `gibolufi kernel {named[role]}` compiles and runs it"]
     return [f"{named[role]!r} looks like {'an' if looks[0] in 'aeio' else 'a'} {looks}: were files swapped?"]

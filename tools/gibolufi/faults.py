@@ -35,7 +35,8 @@ CONFIGURATION = (
 IMAGE = (
     Fault(1, "Short", "the file is shorter than an ELF header", "name the linked program"),
     Fault(2, "NotElf", "the file doesn't begin as an ELF file", "name the linked program, not its source"),
-    Fault(3, "NotClass32", "it is no 32-bit file", "compile for 32 bits: -march=rv32ima -mabi=ilp32"),
+    Fault(3, "NotClass32", "it is no 32-bit file",
+          "compile for RISC-V of 32 bits: riscv64-unknown-elf-gcc -march=rv32ima -mabi=ilp32"),
     Fault(4, "NotLittle", "its bytes aren't in little-endian order", "compile without -mbig-endian"),
     Fault(5, "BadVersion", "its ELF version isn't 1", "link it with a stock linker"),
     Fault(6, "NotExec", "it is no static executable: an object file, or position-independent",

@@ -5,6 +5,8 @@ from collections import namedtuple
 Segment = namedtuple("Segment", "kind offset address filesz memsz flags")
 LOAD = 1
 MOST_BYTES = 67108864
+# Stacks lie past the segments; memory is told in whole MiB.
+STACKS, MIB = 1 << 16, 1 << 20
 
 
 class Image:
@@ -30,13 +32,13 @@ class Image:
         return [it for it in self.segments if it.kind == LOAD and (it.memsz or it.filesz)]
 
     def memory(self):
-        """A base and a size of memory, in whole lines, that hold all segments; None where none do."""
+        """A base and a size of memory that hold all segments, and stacks past them; None where none do."""
         loaded = self.loaded()
         if not loaded:
             return None
         first = min(it.address for it in loaded) // 4096 * 4096
         end = max(it.address + it.memsz for it in loaded)
         # A program from a low address on has memory from 0 on.
-        base = 0 if first < 1 << 20 else first
-        size = max(4096, (end - base + 4095) // 4096 * 4096)
+        base = 0 if first < MIB else first
+        size = (end + STACKS - base + MIB - 1) // MIB * MIB
         return (base, size) if size <= MOST_BYTES and base + size <= 1 << 32 else None

@@ -74,13 +74,13 @@ class Words(InFolder):
         self.assertIn("looks like a configuration", self.said(6, "image fault 1", image=config))
         self.assertIn("looks like a schedule", self.said(6, "image fault 2", image=self.files["schedule"]))
         source = self.write("k.c", '#include "conda.h"\nint main(void) { return 0; }\n')
-        self.assertIn("looks like a C source", self.said(6, "image fault 2", image=source))
+        self.assertIn(f"`gibolufi kernel {source}` compiles and runs it", self.said(6, "image fault 2", image=source))
 
     def test_an_image_at_another_address_is_told_a_memory(self):
         image = self.write("high", header(segments=((1, 0x80000000, 8192),)))
         said = self.said(6, "image fault 14 0", image=image)
         self.assertIn("program header 0, counted from 0, with 8,192 bytes at 0x80000000", said)
-        self.assertIn('{"mem_base":2147483648,"mem_bytes":8192}', said)
+        self.assertIn('{"mem_base":2147483648,"mem_bytes":1048576}', said)
         image = self.write("far", header(segments=((1, 0x10000, 4), (1, 0xf0000000, 4))))
         self.assertIn("link it with conda.ld", self.said(6, "image fault 14 1", image=image))
 

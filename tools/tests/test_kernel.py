@@ -129,7 +129,9 @@ class Refusals(InFolder):
                                     ([good, "--compiler", "icc"], 2, "neither gcc nor clang"),
                                     ([good, "--config", "{"], 1, "is no JSON"),
                                     ([good, "--config", '{"harts":9}'], 1, "harts must be a whole number from 1 to 8"),
-                                    ([good, "--config", good + "x"], 1, "there is no such file"),
+                                    ([good, "--config", "cores=2"], 1, "is neither JSON text"),
+                                    ([good, "--config", self.folder], 1, "it is a directory"),
+                                    ([good, "--schedule", "h0 5"], 1, "is neither words of"),
                                     ([good, "--stack", "9"], 2, "--stack"),
                                     ([good, "--schedule", "--burst h9=1"], 2, "--burst"),
                                     ([good, "--flags", "'"], 2, "can't be cut into words")):
@@ -151,6 +153,11 @@ class Refusals(InFolder):
                     continue
                 self.assertEqual((status, out), (1, ""), said)
                 self.assertIn(part, said)
+
+    def test_a_kernel_that_is_launched_by_its_function_is_told(self):
+        text = SUM.replace("add_entries", "add")
+        said = done("kernel", self.write("k.c", text), "--config", SMALL)[2]
+        self.assertIn("launch(core, NAME_entries, argument)", said)
 
     def test_an_array_past_memory(self):
         text = 'static volatile int big[200000];\nint main(void) { big[9] = 1; return big[9]; }\n'

@@ -37,6 +37,7 @@ class Refusals(InFolder):
         order, report = self.run_files()
         self.is_refused(["timeline", order, report + "x"], 1, "there is no such file")
         self.is_refused(["timeline", self.folder, report], 1, "it is a directory")
+        self.is_refused(["timeline", report, order], 2, "they were swapped")
         for words in (["--from"], ["--from", "0", order, report], [order], ["--page", order, report], [],
                       ["--svg", "--csv", order, report], ["--from", "9", "--to", "3", order, report],
                       ["--from", "999", order, report]):

@@ -80,6 +80,8 @@ class Kernel:
         if given.lstrip()[:1] == "{":
             self.config = configuration.read_text(given, "--config")
             self.write("config.json", given.rstrip("\n") + "\n")
+        elif not os.path.exists(given):
+            raise Refused(f"--config: {given!r} is neither JSON text, as '{{\"cores\":2}}', nor a file that is there")
         else:
             self.config = configuration.read_file(given)
             shutil.copyfile(given, self.at("config.json"))
@@ -97,6 +99,9 @@ class Kernel:
         """Writes the schedule; how it was made, and what is to be said of it."""
         given = self.options.get("schedule", "")
         if given and not given.lstrip().startswith("-"):
+            if not os.path.isfile(given):
+                raise Refused(f"--schedule: {given!r} is neither words of `gibolufi schedule`, as "
+                              "'--burst h0=8,n0=32 --until-ended', nor a file that is there")
             shutil.copyfile(given, self.at("schedule"))
             return given, ""
         words = words_in("--schedule", given)

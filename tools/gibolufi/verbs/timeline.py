@@ -2,6 +2,7 @@
 import os
 import sys
 
+from gibolufi.files import kind_of
 from gibolufi.pictures import texts, trace
 from gibolufi.pictures.page import page_of
 from gibolufi.pictures.run import Run
@@ -31,6 +32,8 @@ def read_run(options, paths):
     if len(paths) != 2:
         raise BadWord(f"two files are needed, the order and the report, and {len(paths) or 'none'} "
                       f"{'is' if len(paths) == 1 else 'are'} named")
+    if [kind_of(it) for it in paths] == ["report", "order"]:
+        raise BadWord("the order comes first, and then the report: they were swapped")
     ends = {name: whole_number(f"--{name}", options[name], 1, MOST) for name in ("from", "to") if name in options}
     first, last = ends.get("from", 1), ends.get("to")
     if last is not None and first > last:
