@@ -4,10 +4,10 @@
 // The same source compiles for the machine that compiles it: there a launch runs the whole kernel at once, and there is
 // one hart. So a program whose output doesn't depend on who comes first puts the same text on both.
 //
-// What harts and kernels may use: the instructions of rv32im, and the word atomics of rv32ima but for compare-and-exchange
-// (lr and sc trap as no instruction, cause 2), so __atomic_fetch_add and __atomic_exchange_n on words, and no
-// __atomic_compare_exchange; no atomics on bytes and halves, which compilers make of lr and sc or of calls; no floats in
-// registers. Besides, a kernel may make the calls `put` and `done` alone: another traps (cause 8). A load or store at an
+// What harts and kernels may use: the instructions of rv32im, and the word atomics of rv32ima but for
+// compare-and-exchange (lr and sc trap as no instruction, cause 2), so __atomic_fetch_add and __atomic_exchange_n on
+// words, and no __atomic_compare_exchange; no atomics on bytes and halves, which compilers make of lr and sc or of
+// calls; no floats in registers. Besides, a kernel may make the calls `put` and `done` alone: another traps (cause 8). A load or store at an
 // address that is no multiple of its size traps (causes 4 and 6).
 //
 // A kernel's portion reads memory's own bytes: what a hart stored shortly before is stale there, until a rollback

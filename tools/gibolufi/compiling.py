@@ -24,7 +24,8 @@ HINTS = (
      r"ashl|ashr|lshr|clz|ctz|popcount)\w*)",
      "that is arithmetic that the compiler's own library has, and clang's is missing: use gcc (Debian: "
      "gcc-riscv64-unknown-elf)"),
-    (r"conda\.h: No such file|'conda\.h' file not found", "conda.h is found by `gibolufi kernel` itself: include \"conda.h\""),
+    (r"conda\.h: No such file|'conda\.h' file not found",
+     "conda.h is found by `gibolufi kernel` itself: include \"conda.h\""),
     (r"(?:stdio|stdlib|string|errno|math)\.h: No such file|'(?:stdio|stdlib|string|errno|math)\.h' file not found",
      "that header is of the C library: add --libc"),
     (r"passing argument 2 of .launch. from incompatible|to parameter of type 'kernel_entries'",

@@ -213,7 +213,8 @@ def memory_words(path):
         memory = None
     if memory is None:
         return ["no configuration's memory (at most 67,108,864 bytes) holds all of it: link it with conda.ld"]
-    return [f'its segments, and stacks past them, lie in memory with {{"mem_base":{memory[0]},"mem_bytes":{memory[1]}}}']
+    numbers = f'{{"mem_base":{memory[0]},"mem_bytes":{memory[1]}}}'
+    return [f"its segments, and stacks past them, lie in memory with {numbers}"]
 
 
 def bad_line(table, role, numbers, named):

@@ -13,7 +13,8 @@ def as_troff():
     """The text of gibolufi(1)."""
     parts = [f'.TH GIBOLUFI 1 "" "gibolufi {VERSION}"\n', ".SH NAME\n",
              "gibolufi \\- a verified near\\-data simulator, from a C file to an answer\n",
-             ".SH SYNOPSIS\n.B gibolufi\n.I VERB\n\\&..\n", ".SH DESCRIPTION\n.nf\n", escaped(command.usage()), "\n.fi\n"]
+             ".SH SYNOPSIS\n.B gibolufi\n.I VERB\n\\&..\n",
+             ".SH DESCRIPTION\n.nf\n", escaped(command.usage()), "\n.fi\n"]
     for verb in command.VERBS:
         parts += [f".SH {verb.upper()}\n.nf\n", escaped(command.module_of(verb).USAGE), "\n.fi\n"]
     for it in program.COMMANDS:

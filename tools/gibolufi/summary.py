@@ -4,6 +4,10 @@ from gibolufi.report import KINDS, status_words
 from gibolufi.words import counted
 
 
+# The kinds that the line of events tells, in its order.
+SHOWN = (order.STEP, order.WAITS, order.HELD, order.TRY, order.KERN, order.FLUSH, order.IDLE)
+
+
 class Counts:
     """What an order has: entries by kind, and ends, acts and locks by cause."""
 
@@ -51,7 +55,7 @@ def lines(counts, report, place):
             yield "", f"what to do: {row.remedy}"
     kinds = counts.kinds
     told = [f"{kinds[kind]:,} {order.PLURALS[kind] if kinds[kind] != 1 else order.NAMES[kind]}"
-            for kind in (order.STEP, order.WAITS, order.HELD, order.TRY, order.KERN, order.FLUSH, order.IDLE) if kinds[kind]]
+            for kind in SHOWN if kinds[kind]]
     yield "events", f"{report.events:,}: {', '.join(told)}"
     opened = kinds[order.OPEN] + kinds[order.LOCK]
     yield "portions", (f"{opened:,} opened: {kinds[order.COMMIT]:,} committed, {kinds[order.BACK]:,} rolled back, "

@@ -109,9 +109,9 @@ class Browser:
 
     def key(self, name):
         """A key that is pressed and let go."""
-        text = name if len(name) == 1 else ""
-        for kind in ("keyDown", "keyUp"):
-            self.ask("Input.dispatchKeyEvent", type=kind, key=name, **({"text": text} if text and kind == "keyDown" else {}))
+        typed = {"text": name} if len(name) == 1 else {}
+        self.ask("Input.dispatchKeyEvent", type="keyDown", key=name, **typed)
+        self.ask("Input.dispatchKeyEvent", type="keyUp", key=name)
 
     def picture(self, path):
         """Writes what is seen as PNG."""

@@ -97,8 +97,10 @@ class Words(InFolder):
                             (["run", *good[:-1], "--report="], "--report has an empty name"),
                             (["run", *good[:-1], "--report"], "--report has no value"),
                             (["run", *good[:-1], "--report", "-x"], "write ./-x"),
-                            (["run", *good[:-1], "--report", self.files["order"]], "--order and --report name one file"),
-                            (["self", "--seed=1", "--events=0", "--report=r"], "'0' is no whole number from 1 to 67108864"),
+                            (["run", *good[:-1], "--report", self.files["order"]],
+                             "--order and --report name one file"),
+                            (["self", "--seed=1", "--events=0", "--report=r"],
+                             "'0' is no whole number from 1 to 67108864"),
                             (["frob"], "'frob' is no command: it is one of run, self"), ([], "there is no command")):
             with self.subTest(words):
                 said = "\n".join(explain(words, 2, "conda: usage\n"))

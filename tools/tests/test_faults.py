@@ -64,7 +64,8 @@ class Sources(unittest.TestCase):
 
     def test_causes_of_traps(self):
         text = text_of("rv32_hart/specs/Act.antt", "offload_calls/specs/Calls.antt")
-        found = {int(number) for number in re.findall(r"trapped (\d+) |cause = (\d+)", text) for number in number if number}
+        pairs = re.findall(r"trapped (\d+) |cause = (\d+)", text)
+        found = {int(number) for pair in pairs for number in pair if number}
         aligned = {int(number) for number in re.findall(r"checked code (\d+) ", text)}
         found |= aligned | {number + 1 for number in aligned}
         self.assertEqual(found, {row.number for row in faults.TRAPS})

@@ -89,7 +89,8 @@ class Kernel(InFolder):
         self.assertEqual((status, lines["hart 0"], lines.get("STACK")), (0, "exited with 0", None), said)
 
     def test_what_never_ends_is_told(self):
-        status, lines, said = self.ran('#include "conda.h"\nint main(void) {\n    for (;;)\n        ;\n}\n', "--limit", "2000")
+        text = '#include "conda.h"\nint main(void) {\n    for (;;)\n        ;\n}\n'
+        status, lines, said = self.ran(text, "--limit", "2000")
         self.assertEqual((status, lines["hart 0"]), (0, "still runs"), said)
         self.assertIn("h0 at pc", lines["NOT ENDED"])
 

@@ -74,7 +74,8 @@ class Page(InFolder):
         self.browser.mouse("mouseMoved", *self.point(13.5, 1))
         told = self.browser.value("told.textContent")
         self.assertIn("event 13: p 0", told)
-        self.assertIn("core 0's portion, events 11 to 16: rolled back: 4 instructions undone, ended by the kernel's end", told)
+        self.assertIn("core 0's portion, events 11 to 16: rolled back: 4 instructions undone, ended by the kernel's end",
+                      told)
         self.browser.mouse("mouseMoved", *self.point(1.5, 0))
         self.assertIn("event 1: s 0 (of 9 equal ones, events 1 to 9)", self.browser.value("told.textContent"))
 
@@ -133,7 +134,8 @@ class Colours(unittest.TestCase):
         with open(os.path.join(os.path.dirname(colours.__file__), "page.html"), encoding="utf-8") as file:
             page = file.read()
         # The page's own pairs of text and ground.
-        for ink, ground in (("#26303a", "#f7f8f8"), ("#5a646e", "#f7f8f8"), ("#26303a", "#d5e2f0"), ("#ffffff", "#26303a"),
+        for ink, ground in (("#26303a", "#f7f8f8"), ("#5a646e", "#f7f8f8"), ("#26303a", "#d5e2f0"),
+                            ("#ffffff", "#26303a"),
                             ("#e3e8ec", "#26303a"), ("#ffffff", "#45505b")):
             self.assertIn(ground, page)
             pairs.append((ink, ground))

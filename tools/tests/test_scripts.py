@@ -65,7 +65,8 @@ class Build(InFolder):
 
     def test_only_what_changed_and_what_stands_on_it_is_proved_again(self):
         status, out, proved = self.built()
-        self.assertEqual((status, proved[0], sorted(proved[1:3]), proved[3:]), (0, "low", ["left", "right"], ["conda_cli"]), out)
+        self.assertEqual((status, proved[0], sorted(proved[1:3])), (0, "low", ["left", "right"]), out)
+        self.assertEqual(proved[3:], ["conda_cli"])
         self.assertIn("4 of 4 crates are to be proved", out)
         status, out, proved = self.built()
         self.assertEqual((status, proved), (0, []), out)

@@ -9,13 +9,6 @@ from gibolufi.pictures.run import Run
 from tests.common import ORDER, InFolder, done
 
 
-def lane_of(entry):
-    """The lane of an entry."""
-    letter, who = entry.split()[:2]
-    is_hart = who[0] == "h" if letter in "-x" else letter in "sw"
-    return f"{'hart' if is_hart else 'core'} {who[-1]}"
-
-
 class Refusals(InFolder):
     """A file that is no order is refused with its line, and bad words with status 2."""
 
@@ -29,7 +22,8 @@ class Refusals(InFolder):
 
     def test_bad_reports(self):
         order = self.run_files()[0]
-        for text, part in (("", "ends before"), ("events x\n", "line 1 "), ("events 1\noutput 0\nhart 1 run pc 0\n", "line 3 ")):
+        for text, part in (("", "ends before"), ("events x\n", "line 1 "),
+                           ("events 1\noutput 0\nhart 1 run pc 0\n", "line 3 ")):
             with self.subTest(text):
                 self.is_refused(["timeline", order, self.write("bad", text)], 1, part)
 
@@ -72,12 +66,14 @@ class Forms(InFolder):
         entries = [row["entry"] for row in rows for _ in range(int(row["events"])) if row["entry"]]
         self.assertEqual(entries, ORDER.splitlines())
         self.assertEqual([(row["what"], row["instructions"], row["ended_by"]) for row in rows if not row["entry"]],
-                         [("rollback of a portion", "4", "the kernel's end"), ("commit of a portion", "4", "the kernel's end"),
+                         [("rollback of a portion", "4", "the kernel's end"),
+                          ("commit of a portion", "4", "the kernel's end"),
                           ("commit of a portion under the lock", "3", "most instructions")])
 
     def test_the_totals_are_text(self):
         text = done("timeline", "--totals", "--config", "a/c.json", "--image", "b/k.elf", *self.run_files())[1]
-        for part in ("run        k.elf: c.json, order, report", "hart 0     exit 00000000; 10 steps, 1 wait, 1 idle, 3 held",
+        for part in ("run        k.elf: c.json, order, report",
+                     "hart 0     exit 00000000; 10 steps, 1 wait, 1 idle, 3 held",
                      "rollbacks  1 by the kernel's end; 4 instructions undone", "traffic    fill 1, back 1, down 0"):
             self.assertIn(part, text)
 
@@ -85,8 +81,8 @@ class Forms(InFolder):
         order, report = self.run_files()
         run = Run(order, report, 13, 20)
         self.assertEqual([it.words("core 0") for it in run.portions()],
-                         ["core 0's portion, events 11 to 16: rolled back: 4 instructions undone, ended by the kernel's end",
-                          "core 0's portion, events 19 to 24: committed: 4 instructions, ended by the kernel's end"])
+                         [f"core 0's portion, events {told}, ended by the kernel's end" for told in (
+                             "11 to 16: rolled back: 4 instructions undone", "19 to 24: committed: 4 instructions")])
         self.assertEqual(list(run.runs())[0], (13, 3, 6 << 4 | 1, 0, 0))
         for form in ([], ["--svg"], ["--trace"], ["--totals"], ["--csv"]):
             self.assertEqual(done("timeline", *form, "--from=13", "--to=20", order, report)[0], 0, form)

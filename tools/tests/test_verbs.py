@@ -1,9 +1,11 @@
 """The tool as a whole: help, versions, refusals in one clear line."""
 import os
 import sys
+from unittest import mock
 
-from gibolufi import VERSION, command, places, program
-from gibolufi.words import counted, listed
+from gibolufi import VERSION, command, compiling, example, places, program
+from gibolufi.verbs import first_look
+from gibolufi.words import Refused, counted, listed
 from tests.common import STARTER, InFolder, done, started
 
 
@@ -26,7 +28,8 @@ class Whole(InFolder):
     def test_the_versions(self):
         status, out, _ = done("--version")
         self.assertEqual(status, 0)
-        self.assertEqual([line.split()[0].rstrip(":") for line in out.splitlines()], ["gibolufi", "program", "toolchain"])
+        names = [line.split()[0].rstrip(":") for line in out.splitlines()]
+        self.assertEqual(names, ["gibolufi", "program", "toolchain"])
         self.assertIn(VERSION, out)
 
     def test_no_name_is_guessed(self):
@@ -48,6 +51,19 @@ class Whole(InFolder):
             if old is not None:
                 os.environ[places.VARIABLE] = old
 
+    def test_a_missing_compiler_is_told_with_its_packages(self):
+        with mock.patch.object(compiling, "is_there", lambda name: False):
+            with self.assertRaises(Refused) as caught:
+                compiling.Compiler()
+        self.assertIn("install gcc-riscv64-unknown-elf and binutils-riscv64-unknown-elf, or clang and lld", str(caught.exception))
+
+    def test_a_first_look_has_words_for_each_letter(self):
+        for entry in ("s 0", "w 0", "- h0", "x n1", "o 0", "l 0", "p 0", "f 0", "k 0"):
+            self.assertTrue(first_look.entry_words(entry), entry)
+        self.assertEqual(first_look.entry_words("r 1 3 1"), "core 1's portion is rolled back, since it may have read what "
+                         "others changed: 3 instructions undone, ended by the kernel's end")
+        self.assertEqual(len(example.image()), 84 + 4 * len(example.PROGRAM))
+
     def test_the_starter_and_a_reader_that_goes_away(self):
         self.assertEqual(started("--help")[0], 0)
         self.assertEqual(started("frob")[::2], (2, "gibolufi: 'frob' is no verb; --help lists them\n"))
@@ -57,4 +73,5 @@ class Whole(InFolder):
 
     def test_words(self):
         self.assertEqual([counted(1, "event"), counted(12345, "event")], ["1 event", "12,345 events"])
-        self.assertEqual([listed([]), listed("a"), listed("ab"), listed("abc", "or")], ["", "a", "a and b", "a, b or c"])
+        self.assertEqual([listed([]), listed("a"), listed("ab")], ["", "a", "a and b"])
+        self.assertEqual(listed("abc", "or"), "a, b or c")
