@@ -6,7 +6,7 @@ from gibolufi.words import Refused, shown
 
 WORD = "[0-9a-f]{8}"
 TAG_LINE = re.compile(rf"tag [0-7] {WORD} [MES]")
-NOTE_LINE = re.compile(rf"note [a-z]+ [0-7] {WORD}")
+NOTE_LINE = re.compile(rf"note [a-z]+ (?:[0-9]|1[01]) {WORD}")
 CHANGED_LINE = re.compile(rf"line ({WORD}) ((?:[0-9a-f]{{2}})+)")
 REGISTER_LINE = re.compile(rf"x(\d+) ({WORD})")
 ACTOR_LINE = re.compile(

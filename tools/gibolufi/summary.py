@@ -57,6 +57,21 @@ def lines(counts, report, place):
     told = [f"{kinds[kind]:,} {order.PLURALS[kind] if kinds[kind] != 1 else order.NAMES[kind]}"
             for kind in SHOWN if kinds[kind]]
     yield "events", f"{report.events:,}: {', '.join(told)}"
+    yield from kernel_lines(counts) if kinds[order.KERN] else portion_lines(counts)
+    if report.traffic:
+        yield "traffic", ", ".join(f"{kind} {report.traffic.get(kind, 0):,}" for kind in KINDS)
+
+
+def kernel_lines(counts):
+    """Where kernels run with no portion: how much of them."""
+    kinds = counts.kinds
+    yield "kernels", (f"{counted(kinds[order.KERN], 'instruction')} with no portion, "
+                      f"{kinds[order.LOCK]:,} begun under the lock")
+
+
+def portion_lines(counts):
+    """What became of the portions."""
+    kinds = counts.kinds
     opened = kinds[order.OPEN] + kinds[order.LOCK]
     yield "portions", (f"{opened:,} opened: {kinds[order.COMMIT]:,} committed, {kinds[order.BACK]:,} rolled back, "
                        f"{kinds[order.LOCK]:,} under the lock")
@@ -64,8 +79,6 @@ def lines(counts, report, place):
     yield "rollbacks", counts.ends(order.BACK)
     yield "undone", (f"{counted(sum(counts.undone.values()), 'instruction')} of {kinds[order.TRY]:,} tried"
                      + (f": {by_cause(counts.undone)}" if counts.undone else ""))
-    if report.traffic:
-        yield "traffic", ", ".join(f"{kind} {report.traffic.get(kind, 0):,}" for kind in KINDS)
 
 
 def as_text(named):

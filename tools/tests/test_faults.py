@@ -35,11 +35,11 @@ class Sources(unittest.TestCase):
     """No number of the program is missing from the table, and none stands there that the program hasn't."""
 
     def test_statuses(self):
-        text = text_of("conda_engine/specs/*.antt")
+        text = text_of("*/specs/*.antt")
         self.assertEqual(numbers(text, r"status_code \(?status\.(\w+)[^=\n]*= (\d+)"), named(faults.STATUSES))
 
     def test_faults_of_configuration_and_image(self):
-        text = text_of("conda_engine/specs/*.antt")
+        text = text_of("*/specs/*.antt")
         for name, table in (("config", faults.CONFIGURATION), ("image", faults.IMAGE)):
             pattern = rf"{name}_fault_number \(?\w*fault\.(\w+)[^=\n]*= (\d+)"
             self.assertEqual(numbers(text, pattern), named(table))

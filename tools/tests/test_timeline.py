@@ -109,3 +109,15 @@ class Large(InFolder):
         # A fifth of what 10,000,000 may take: 5 MB and 10 s.
         self.assertLess(len(page), 1_000_000)
         self.assertLess(time.process_time() - began, 4)
+
+
+class Kernels(InFolder):
+    """An order whose kernels run with no portion."""
+
+    def test_a_kernel_under_the_lock_is_no_portion(self):
+        files = self.run_files("s 0\nl 0\n" + "k 0\nx h0\n" * 4 + "- n0\ns 0\n")
+        self.assertEqual(Run(*files).portions(), [])
+        text = done("timeline", "--totals", *files)[1]
+        self.assertIn("core 0     idle; 1 idle, 1 opening under the lock, 4 instructions of kernels", text)
+        for form in ([], ["--svg"], ["--trace"], ["--csv"]):
+            self.assertEqual(done("timeline", *form, *files)[0], 0, form)

@@ -51,7 +51,7 @@ def page_of(run):
     """The page with the run's numbers in it."""
     before, after = ([], []) if run.is_whole else cut_portions(run)
     held = {
-        "before": before, "after": after,
+        "before": before, "after": after, "hasKernels": run.has_kernels,
         "first": run.first, "last": run.last, "harts": len(run.report.harts),
         "lanes": run.report.lanes, "names": order.NAMES, "words": order.WORDS, "ends": order.ENDS,
         "letters": order.LETTERS, "colours": colours.KINDS, "unended": colours.UNENDED,

@@ -72,6 +72,11 @@ class Run:
         """Whether all events are shown."""
         return self.first == 1 and self.last == self.report.events
 
+    @property
+    def has_kernels(self):
+        """Whether kernels run with no portion."""
+        return any(order.code_of(order.KERN, lane) in self.order.codes for lane in range(16))
+
     def kinds(self):
         """The kinds of entries that are there."""
         return {code >> 4 for code in set(self.codes)}
@@ -96,7 +101,12 @@ class Run:
         return self._portions
 
     def _found_portions(self):
-        """All portions of the order, those that are open at its end last."""
+        """All portions of the order, those that are open at its end last.
+
+        Where kernels run with no portion, an entry of the lock begins a kernel, and is no opening.
+        """
+        if self.has_kernels:
+            return
         still_open, ended = {}, zip(self.order.acts, self.order.ends)
         for match in PORTION_CODES.finditer(self.order.codes):
             code, event = match[0][0], 1 + match.start()
