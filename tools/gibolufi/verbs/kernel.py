@@ -201,6 +201,7 @@ def main(words):
     print(f"{title} with {given}, {turns}")
     sys.stdout.write(summary.as_text(kernel.lines(run, note)))
     print(f"results in {kernel.folder}: page.html, order, report, output, schedule, config.json, image.elf")
-    if "open" in options:
-        webbrowser.open("file://" + os.path.abspath(kernel.at("page.html")))
+    page = os.path.abspath(kernel.at("page.html"))
+    if "open" in options and not webbrowser.open("file://" + page):
+        print(f"gibolufi kernel: no browser was found to open {page}", file=sys.stderr)
     return 0
