@@ -16,7 +16,6 @@ static volatile unsigned memory[0x50000 / 4];
 
 KERNEL(read_one) {
     unsigned sum = 0;
-    (void)argument, (void)core;
     for (int at = 0; at < 40; at++)
         sum += *WORD(0x40000) + 1;
     return sum;

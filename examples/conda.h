@@ -1,8 +1,14 @@
 // The five calls of the chip, as C functions. Besides, `KERNEL(name)` makes a function one that a core can be
-// launched on.
+// launched on, and `MAIN` begins a main that is told its hart's number and the number of harts.
 //
-// The same source compiles for the machine that compiles it: there a launch runs the whole kernel at once. So a
-// program whose output doesn't depend on who comes first puts the same text on both.
+// The same source compiles for the machine that compiles it: there a launch runs the whole kernel at once, and there is
+// one hart. So a program whose output doesn't depend on who comes first puts the same text on both.
+//
+// What harts and kernels may use: the instructions of rv32im, and the word atomics of rv32ima but for
+// compare-and-exchange (lr and sc trap as no instruction, cause 2), so __atomic_fetch_add and __atomic_exchange_n on
+// words, and no __atomic_compare_exchange; no atomics on bytes and halves, which compilers make of lr and sc or of
+// calls; no floats in registers. Besides, a kernel may make the calls `put` and `done` alone: another traps (cause 8). A load or store at an
+// address that is no multiple of its size traps (causes 4 and 6).
 //
 // A kernel's portion reads memory's own bytes: what a hart stored shortly before is stale there, until a rollback
 // flushed it.
@@ -25,7 +31,13 @@ struct answer {
 // the value of its `done`.
 typedef unsigned kernel_function(uintptr_t argument, unsigned core);
 
+// For parameters that a kernel or a main may leave unused.
+#define MAYBE_UNUSED __attribute__((unused))
+
 #ifdef __riscv
+
+// Each hart runs main, with its number, from 0 on, and the number of harts. What main returns is the exit's value.
+#define MAIN(hart, harts) int main(unsigned hart MAYBE_UNUSED, unsigned harts MAYBE_UNUSED)
 
 // A core begins at an address, and with all registers 0 but its argument. So a kernel has an entry for each core, of
 // sixteen bytes, which tells the start file what core it is and what function to call.
@@ -46,7 +58,7 @@ typedef const char *kernel_entries;
             ".set core, core + 1\n"                                             \
             ".endr\n"                                                           \
             ".popsection\n");                                                   \
-    __attribute__((used)) unsigned name(uintptr_t argument, unsigned core)
+    __attribute__((used)) unsigned name(uintptr_t argument MAYBE_UNUSED, unsigned core MAYBE_UNUSED)
 
 static inline unsigned launch(unsigned core, kernel_entries kernel, uintptr_t argument) {
     register uintptr_t a0 __asm__("a0") = core;
@@ -94,12 +106,19 @@ __attribute__((noreturn)) static inline void done(unsigned value) {
 #include <setjmp.h>
 #include <stdio.h>
 
+#define MAIN(hart, harts)                                                       \
+    static int program(unsigned hart, unsigned harts);                          \
+    int main(void) {                                                            \
+        return program(0, 1);                                                   \
+    }                                                                           \
+    static int program(unsigned hart MAYBE_UNUSED, unsigned harts MAYBE_UNUSED)
+
 typedef kernel_function *kernel_entries;
 
 #define KERNEL(name)                                                            \
     unsigned name(uintptr_t argument, unsigned core);                           \
     static kernel_function *const name##_entries = name;                        \
-    unsigned name(uintptr_t argument, unsigned core)
+    unsigned name(uintptr_t argument MAYBE_UNUSED, unsigned core MAYBE_UNUSED)
 
 static struct answer cores[4];
 static unsigned running;

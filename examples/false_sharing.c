@@ -14,7 +14,6 @@ static struct {
 } counters __attribute__((aligned(64)));
 
 KERNEL(count) {
-    (void)argument, (void)core;
     for (int at = 0; at < 40; at++)
         counters.of_kernel++;
     return counters.of_kernel;

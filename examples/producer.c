@@ -11,7 +11,6 @@ static volatile unsigned counter __attribute__((aligned(64)));
 // Whether the counter never fell while it was read.
 KERNEL(watch) {
     unsigned last = 0, is_rising = 1;
-    (void)argument, (void)core;
     for (int at = 0; at < 40; at++) {
         unsigned now = counter;
         is_rising &= now >= last;

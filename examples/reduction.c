@@ -14,7 +14,6 @@ static unsigned words[COUNT] __attribute__((aligned(64)));
 KERNEL(sum_half) {
     const unsigned *from = (const unsigned *)argument;
     unsigned sum = 0;
-    (void)core;
     for (int at = 0; at < COUNT / 2; at++)
         sum += from[at];
     return sum;

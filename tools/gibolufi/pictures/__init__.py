@@ -1,0 +1,1 @@
+"""A run as a page, a picture, a trace, totals or rows."""
