@@ -25,11 +25,14 @@ _RUN = (_file("config"), _file("image"), _file("schedule"), _file("order"), _fil
 # A row for each command of the program: it is handed on, and its faults get words, by its row alone.
 COMMANDS = (
     Command("run", _RUN, "runs a schedule of a configuration and an image"),
+    Command("fine", _RUN, "the same, with kernels that act on the harts' coherent memory"),
     Command("self", (_number("seed", 0, 2**64 - 1), _number("events", 1, MOST_EVENTS), _file("report")),
             "runs a workload that is made of a seed"),
     Command("asm", (_file("source"), _file("program")), "makes the image of a source in assembly text"),
     Command("dis", (_file("program"), _file("source")), "makes the source of an image's program"),
 )
+# The commands that run a schedule, each on a machine of its own.
+MODES = ("run", "fine")
 BY_NAME = {command.name: command for command in COMMANDS}
 # What a role's file is called in messages.
 ROLES = {"config": "configuration", "image": "image", "schedule": "schedule", "order": "order",

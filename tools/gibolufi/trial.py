@@ -24,10 +24,10 @@ class NeverEnded(Refused):
 
 
 class Trial:
-    """Runs of a program on one configuration and image, in a folder of their own."""
+    """Runs of a program's command on one configuration and image, in a folder of their own."""
 
-    def __init__(self, path, config, image, progress):
-        self.path, self.config, self.image, self.progress = path, config, image, progress
+    def __init__(self, path, config, image, progress, mode="run"):
+        self.path, self.config, self.image, self.progress, self.mode = path, config, image, progress, mode
 
     def events_until_ended(self, turns, limit):
         """How many events of these turns it takes, and how each hart ended."""
@@ -47,7 +47,7 @@ class Trial:
         """The report of so many events."""
         with open(self.files["schedule"], "w", encoding="ascii") as file:
             file.writelines(turns.parts(events))
-        words = ["run", "--config", self.config, "--image", self.image]
+        words = [self.mode, "--config", self.config, "--image", self.image]
         for role, name in self.files.items():
             words += [f"--{role}", name]
         process = subprocess.Popen([self.path, *words], stdin=subprocess.DEVNULL, stderr=subprocess.PIPE)

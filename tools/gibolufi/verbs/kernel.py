@@ -24,7 +24,7 @@ schedule, runs it, makes the page of the run, and prints how it ended.
                           plain chip of one hart and one core)
   --schedule WORDS or F   the words of `gibolufi schedule`, in quotes, or a file; without it all harts
                           and cores take turns of 16 events until every hart has ended
-  --mode run              the program's command that runs it
+  --mode run|fine         the program's command that runs it (run)
   --libc                  links picolibc, for printf, malloc and so on
   --stack N               the bytes of each hart's and core's stack (4096)
   --flags WORDS           more words for the compiler, in quotes
@@ -36,7 +36,6 @@ schedule, runs it, makes the page of the run, and prints how it ended.
 
 Status: the simulator's own; 1 where it didn't come to run it; 2 for a bad word."""
 VALUES = ("config", "schedule", "mode", "stack", "flags", "compiler", "limit", "out", "program")
-MODES = ("run",)
 BURST = 16
 # The most events that are tried where nothing else is said, by the proved and by the unproved program.
 LIMIT, UNPROVED_LIMIT = 4194304, 131072
@@ -51,8 +50,8 @@ class Kernel:
     def __init__(self, sources, options):
         self.sources, self.options = sources, options
         self.mode = options.get("mode", "run")
-        if self.mode not in MODES:
-            raise BadWord(f"--mode: {self.mode!r} is none of {', '.join(MODES)}")
+        if self.mode not in program.MODES:
+            raise BadWord(f"--mode: {self.mode!r} is none of {', '.join(program.MODES)}")
         if not sources:
             raise BadWord("a C file is needed; --help tells the words")
         for source in sources:
@@ -124,7 +123,8 @@ class Kernel:
         usual = UNPROVED_LIMIT if program.is_unproved(self.program) else LIMIT
         limit = options.get("limit", self.options.get("limit", str(usual)))
         limit = whole_number("--limit", limit, 1, MOST_EVENTS)
-        trial = Trial(self.program, self.at("config.json"), self.at("image.elf"), Progress("gibolufi kernel"))
+        trial = Trial(self.program, self.at("config.json"), self.at("image.elf"), Progress("gibolufi kernel"),
+                      self.mode)
         try:
             return trial.events_until_ended(turns, limit)[0], ""
         except NeverEnded as fault:

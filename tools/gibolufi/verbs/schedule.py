@@ -26,12 +26,14 @@ How:
   --events N        so many events in all
   --until-ended     as many as it takes until every hart has ended, found by running the program
                     on longer and longer schedules; needs --config and --image
+  --mode M[,M]      with --until-ended: the commands on which every hart is to have ended, of run
+                    and fine (run)
   --limit N         with --until-ended: the most events that are tried (67108864)
   --program F       with --until-ended: the program (CONDA, or the one that scripts/build made)
 
 The same words give the same bytes. Status 2: a bad word. Status 1: some hart hadn't ended after
 the limit, or the program refused its files; then nothing is written."""
-VALUES = ("burst", "weight", "config", "random", "events", "limit", "program", "image")
+VALUES = ("burst", "weight", "config", "random", "events", "limit", "program", "image", "mode")
 
 
 def read_options(words):
@@ -46,7 +48,7 @@ def events_of(options, turns):
     if ("events" in options) == ("until-ended" in options):
         raise BadWord("one of --events and --until-ended is needed")
     if "events" in options:
-        for name in ("image", "limit", "program"):
+        for name in ("image", "limit", "program", "mode"):
             if name in options:
                 raise BadWord(f"--{name} needs --until-ended")
         return whole_number("--events", options["events"], 1, MOST_EVENTS)
@@ -59,16 +61,30 @@ def events_of(options, turns):
     return found_by_trial(options, turns, limit)
 
 
+def modes_of(options):
+    """The commands on which every hart is to have ended."""
+    modes = options.get("mode", "run").split(",")
+    for mode in modes:
+        if mode not in program.MODES:
+            raise BadWord(f"--mode: {mode!r} is none of {', '.join(program.MODES)}")
+    return modes
+
+
 def found_by_trial(options, turns, limit):
-    """How many events it takes; says so on standard error."""
+    """How many events it takes on all of the commands; says so on standard error."""
+    modes = modes_of(options)
     path = program.find(options.get("program"))
     program.warn_if_unproved(path)
-    trial = Trial(path, options["config"], options["image"], Progress("gibolufi schedule"))
-    events, report = trial.events_until_ended(turns, limit)
-    ends = ", ".join(f"h{number} {status_words(hart) if not hart.is_trap else hart.status}"
-                     for number, hart in enumerate(report.harts))
-    print(f"gibolufi schedule: every hart has ended after {events} events: {ends}", file=sys.stderr)
-    return events
+    most = 0
+    for mode in modes:
+        trial = Trial(path, options["config"], options["image"], Progress("gibolufi schedule"), mode)
+        events, report = trial.events_until_ended(turns, limit)
+        ends = ", ".join(f"h{number} {status_words(hart) if not hart.is_trap else hart.status}"
+                         for number, hart in enumerate(report.harts))
+        on = f"on {mode} " if len(modes) > 1 else ""
+        print(f"gibolufi schedule: {on}every hart has ended after {events} events: {ends}", file=sys.stderr)
+        most = max(most, events)
+    return most
 
 
 def main(words):
