@@ -28,7 +28,6 @@ ENDS = ("", "ended by the kernel's end", "ended by a trap", "ended by its most i
 SHORT_ENDS = ("", "the kernel's end", "trap", "most instructions", "set full", "most lines read",
               "most lines written", "output full")
 MOST_ACTS = 65536
-MOST_EVENTS = 67108864
 
 ENTRY = re.compile(rb"(?:([sw]) ([0-7])|([-x]) ([hn])([0-7])|([olpfk]) ([0-3])"
                    rb"|([cr]) ([0-3]) ([1-9][0-9]{0,4}) ([1-7]))\n")

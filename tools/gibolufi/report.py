@@ -12,15 +12,6 @@ REGISTER_LINE = re.compile(rf"x(\d+) ({WORD})")
 ACTOR_LINE = re.compile(
     rf"(hart|core) ([0-7]) ((?:run|idle|(?:exit|done) {WORD}|trap \d {WORD})) pc ({WORD})")
 KINDS = ("fill", "back", "down", "drop", "evict", "corefill", "merge")
-KIND_WORDS = {
-    "fill": "a hart's cache takes a line in",
-    "back": "a hart's cache writes a line back",
-    "down": "a hart's cache keeps a line for reading alone",
-    "drop": "another's store or a commit takes a line away",
-    "evict": "a full set loses a line",
-    "corefill": "a near-data core reads a line of memory",
-    "merge": "a commit writes a line",
-}
 
 
 class Actor:

@@ -6,9 +6,9 @@ import sys
 from array import array
 
 from gibolufi import configuration
+from gibolufi.program import MOST_EVENTS
 from gibolufi.words import BadWord, Refused, whole_number
 
-MOST_EVENTS = 67108864
 # So many turns are drawn at once, and so many bytes of turns are written at once.
 BLOCK = 1 << 14
 PART = 1 << 20

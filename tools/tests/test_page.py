@@ -114,6 +114,14 @@ class Page(InFolder):
         self.browser.click(*self.point(2002, 1))
         self.assertEqual(self.browser.value("[marked.first, marked.last].join()"), "2001,2003")
 
+    def test_a_large_order_is_drawn_by_buckets_and_by_runs(self):
+        self.open("s 0\n- n0\n- n1\n" * 200000)
+        self.assertTrue(self.browser.value("buckets.size * scale < 0.5"))
+        self.assertTrue(all(size > 1 for size in self.browser.value(COLOURS_OF_LANES)))
+        self.browser.value("look(1000, 1100)")
+        self.assertFalse(self.browser.value("buckets.size * scale < 0.5"))
+        self.assertTrue(all(size > 1 for size in self.browser.value(COLOURS_OF_LANES)))
+
     def test_a_narrow_window_has_no_sideways_scroll(self):
         for wide in (320, 500):
             self.open(wide=wide)

@@ -68,7 +68,7 @@ pub record HasWalked (d : Design) (c : CheckerView) (order : List Entry) : Type 
 abbrev pub no_hart : Hart
 no_hart = record { regs = start_regs 0; status = Hart_is.Run }
 
--- harts, cores and memory, with no caches and no traffic; past the harts and cores, any
+-- harts, cores and memory, with caches of one set in which no line is, and no traffic; past the harts and cores, any
 abbrev pub view_of_checker : CheckerView → View
 view_of_checker c = record {
   harts = length c.walker.flat.harts;
@@ -79,7 +79,7 @@ view_of_checker c = record {
   line_bytes = c.line_bytes;
   memory = c.walker.flat.memory;
   loaded = c.code.bytes;
-  sets = 0;
+  sets = 1;
   tags = λ i set. [];
   trace = c.trace;
 }

@@ -148,7 +148,7 @@ impl Shown for Checker {
 
     fn sets(&self) -> u32 {
         let _bytes = self.line_bytes;
-        0
+        1
     }
 
     fn slot(&self, i: u8, set: u32, way: u32) -> Option<(Line, Mesi)> {
