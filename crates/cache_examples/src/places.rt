@@ -1,5 +1,6 @@
 ghost use Rattle.std.specs.Prelude.{◌≡◌, Some};
-ghost use Rattle.set_assoc.specs.Entries.{list_of, place_of_line};
+ghost use Rattle.set_assoc.specs.Places.{place_of_line};
+ghost use Rattle.set_assoc.specs.SetLists.{list_of};
 
 use conda_base::Line;
 use set_assoc::PlacedSets;
