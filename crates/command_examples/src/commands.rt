@@ -122,6 +122,25 @@ fn host_with(
     MemoryHost::new(alloc, inputs, outputs, grants.room, grants.most, numbers)
 }
 
+// Runs an image by this command on a chip of this configuration.
+fn run_by(
+    alloc: Global,
+    command: &str,
+    config: &[u8],
+    image: Vec<u8>,
+    schedule: &[u8],
+    grants: Grants,
+) -> Result<(Status, MemoryHost), AllocError> {
+    let mut words = named(alloc, &[command])?;
+    for word in &WORDS[1..] {
+        words.push(String::from_str(alloc, word)?)?;
+    }
+    words.push(String::from_str(alloc, "--config=c")?)?;
+    let mut host = host_with(alloc, config, image, schedule, grants)?;
+    let status = conda(alloc, &words, &mut host);
+    Ok((status, host))
+}
+
 // Runs an image on a chip of this configuration.
 fn run_on(
     alloc: Global,
@@ -130,11 +149,7 @@ fn run_on(
     schedule: &[u8],
     grants: Grants,
 ) -> Result<(Status, MemoryHost), AllocError> {
-    let mut words = named(alloc, &WORDS)?;
-    words.push(String::from_str(alloc, "--config=c")?)?;
-    let mut host = host_with(alloc, config, image, schedule, grants)?;
-    let status = conda(alloc, &words, &mut host);
-    Ok((status, host))
+    run_by(alloc, "run", config, image, schedule, grants)
 }
 
 // Runs an image on the chip on which no key is set.

@@ -1,5 +1,5 @@
 // Words of commands, and words of none.
-use command_words::{Command, command_of};
+use command_words::{Command, Mode, command_of};
 use std::alloc::{AllocError, Global};
 use std::test::Fail;
 
@@ -15,7 +15,8 @@ fn words_of(alloc: Global, line: &str) -> Result<Vec<String>, AllocError> {
 fn name_of(alloc: Global, line: &str) -> Result<&'static str, AllocError> {
     let words = words_of(alloc, line)?;
     Ok(match command_of(&words) {
-        Some(Command::Run(_)) => "run",
+        Some(Command::Run(Mode::Conda, _)) => "run",
+        Some(Command::Run(Mode::Fine, _)) => "fine",
         Some(Command::SelfRun { .. }) => "self",
         Some(Command::Asm(_)) => "asm",
         Some(Command::Dis(_)) => "dis",
@@ -24,7 +25,7 @@ fn name_of(alloc: Global, line: &str) -> Result<&'static str, AllocError> {
 }
 
 // Lines of words, each with the command that it asks for.
-const TAKEN: [(&str, &str); 6] = [
+const TAKEN: [(&str, &str); 7] = [
     (
         "run --output o --config=a=b --image i --order=x --schedule s --report r",
         "run",
@@ -32,6 +33,10 @@ const TAKEN: [(&str, &str); 6] = [
     (
         "run --config c --image i --schedule s --order x --report r",
         "run",
+    ),
+    (
+        "fine --config c --image i --schedule s --order x --report r",
+        "fine",
     ),
     ("self --seed 1 --events 1 --report 1", "self"),
     (
@@ -42,7 +47,7 @@ const TAKEN: [(&str, &str); 6] = [
     ("dis --program=s --source p", "dis"),
 ];
 
-const REFUSED: [&str; 24] = [
+const REFUSED: [&str; 25] = [
     "",
     "run",
     "run --help",
@@ -55,6 +60,7 @@ const REFUSED: [&str; 24] = [
     "run --config= --image i --schedule s --order x --report r",
     "run --config c --image i --schedule s --order x --report",
     "run --config c --image i --schedule s --order x --report r --seed 1",
+    "fine --config c --image i --schedule s --order x --report x",
     "self --seed 1 --events 0 --report r",
     "self --seed 1 --events 67108865 --report r",
     "self --seed 18446744073709551616 --events 1 --report r",
@@ -86,7 +92,7 @@ fn options_come_in_any_order(rt: HostRuntime) -> Result<(), Fail> {
         rt.alloc(),
         "run --output o --config=a=b --image i --order=x --schedule s --report r",
     )?;
-    let Some(Command::Run(files)) = command_of(&words) else {
+    let Some(Command::Run(_, files)) = command_of(&words) else {
         return Err("no run".into());
     };
     assert_eq!(rt; files.config, "a=b");

@@ -1,6 +1,6 @@
 // What the worked examples of the chip are, and how runs are compared with them.
 use super::chip_programs::Program;
-use super::{Grants, plain, run_on};
+use super::{Grants, plain, run_by};
 use conda_engine::Status;
 use conda_host::MemoryHost;
 use std::alloc::{AllocError, Global};
@@ -115,10 +115,15 @@ fn has_lines(alloc: Global, report: &[u8], lines: &[&[(&str, usize)]]) -> Result
     Ok(true)
 }
 
-fn run_example(alloc: Global, example: &Example) -> Result<(Status, MemoryHost), AllocError> {
+fn run_example(
+    alloc: Global,
+    command: &str,
+    example: &Example,
+) -> Result<(Status, MemoryHost), AllocError> {
     let config = config_of(alloc, example.keys)?;
     let image = image_of(alloc, example.program)?;
-    run_on(alloc, &config, image, example.schedule.as_bytes(), GRANTS)
+    let schedule = example.schedule.as_bytes();
+    run_by(alloc, command, &config, image, schedule, GRANTS)
 }
 
 /// Whether a run left the order of these numbers of equal lines.
@@ -138,9 +143,9 @@ fn has_report(alloc: Global, host: &MemoryHost, example: &Example) -> Result<boo
     Ok(has_lines(alloc, &report, example.lines)? && !holds(&report, example.absent.as_bytes()))
 }
 
-// Whether a run gives what the example says.
-fn is_as_told(alloc: Global, example: &Example) -> Result<bool, AllocError> {
-    let (status, host) = run_example(alloc, example)?;
+// Whether a run by this command gives what the example says.
+fn is_as_told(alloc: Global, command: &str, example: &Example) -> Result<bool, AllocError> {
+    let (status, host) = run_example(alloc, command, example)?;
     Ok(
         status == Status::Done
             && has_order(alloc, &host, example.order)?
@@ -149,12 +154,21 @@ fn is_as_told(alloc: Global, example: &Example) -> Result<bool, AllocError> {
     )
 }
 
-/// The place of the first example that another thing comes of.
-pub fn first_other(alloc: Global, examples: &[Example]) -> Result<Option<usize>, AllocError> {
+/// The place of the first example that another thing comes of by this command.
+pub fn first_other_by(
+    alloc: Global,
+    command: &str,
+    examples: &[Example],
+) -> Result<Option<usize>, AllocError> {
     for (place, example) in examples.iter().enumerate() {
-        if !is_as_told(alloc, example)? {
+        if !is_as_told(alloc, command, example)? {
             return Ok(Some(place));
         }
     }
     Ok(None)
+}
+
+/// The place of the first example that another thing comes of by `run`.
+pub fn first_other(alloc: Global, examples: &[Example]) -> Result<Option<usize>, AllocError> {
+    first_other_by(alloc, "run", examples)
 }

@@ -1,5 +1,5 @@
 // Stores to one line, at each size of a line, and atomics.
-use super::chip::{Example, GRANTS, config_of, first_other, has_line};
+use super::chip::{Example, GRANTS, config_of, first_other, first_other_by, has_line};
 use super::chip_programs::TWO_WRITERS;
 use super::{plain, run_on};
 use conda_engine::Status;
@@ -65,6 +65,24 @@ const WRITERS: &[Example] = &[
     },
 ];
 
+// The same by `fine`: the kernel's store goes through a cache of its core, and drops the hart's line.
+const FINE_WRITERS: &[Example] = &[Example {
+    keys: "",
+    program: TWO_WRITERS,
+    schedule: "h0 10\nn0 6",
+    order: &[(10, "s 0"), (4, "k 0"), (2, "- n0")],
+    lines: &[
+        &[("core 0 done 00000040 pc 0001004c", 0)],
+        &[("line 00000040 1122", 124)],
+        &[(
+            "traffic fill 2 back 1 down 0 drop 1 evict 0 corefill 0 merge 0",
+            0,
+        )],
+    ],
+    absent: "tag",
+    output: "",
+}];
+
 // The atomics on x5, x6 and (x7), and what a word of 80000000 becomes with 1, as memory holds it.
 const ATOMICS: [(u32, &str); 9] = [
     (0x0063_a2af, "01000080"),
@@ -81,6 +99,13 @@ const ATOMICS: [(u32, &str); 9] = [
 #[test]
 fn two_writers_of_one_line(rt: HostRuntime) -> Result<(), Fail> {
     assert_eq!(rt; first_other(rt.alloc(), WRITERS)?, None);
+    Ok(())
+}
+
+#[test]
+fn two_writers_with_no_portion(rt: HostRuntime) -> Result<(), Fail> {
+    let other = first_other_by(rt.alloc(), "fine", FINE_WRITERS)?;
+    assert_eq!(rt; other, None);
     Ok(())
 }
 
