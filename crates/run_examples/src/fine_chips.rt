@@ -47,7 +47,7 @@ fn count(chip: &mut FineChip, a: Actor, many: u32, entry: Entry) -> u32 {
     let mut found = 0;
     for _ in 0..many {
         if chip.has(a) && chip.event(a).entry == entry {
-            found += 1;
+            found = found.saturating_add(1);
         }
     }
     found
