@@ -44,7 +44,7 @@ fn chip(alloc: Global, image: &[u8]) -> Result<FineChip, Fail> {
 
 // How many of the events have this entry.
 fn count(chip: &mut FineChip, a: Actor, many: u32, entry: Entry) -> u32 {
-    let mut found = 0;
+    let mut found: u32 = 0;
     for _ in 0..many {
         if chip.has(a) && chip.event(a).entry == entry {
             found = found.saturating_add(1);
