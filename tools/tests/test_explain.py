@@ -101,7 +101,7 @@ class Words(InFolder):
                              "--order and --report name one file"),
                             (["self", "--seed=1", "--events=0", "--report=r"],
                              "'0' is no whole number from 1 to 67108864"),
-                            (["frob"], "'frob' is no command: it is one of run, self"), ([], "there is no command")):
+                            (["frob"], "'frob' is no command: it is one of run, fine, self"), ([], "there is no command")):
             with self.subTest(words):
                 said = "\n".join(explain(words, 2, "conda: usage\n"))
                 self.assertIn(part, said)
